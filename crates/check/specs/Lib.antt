@@ -1,0 +1,7 @@
+pub mod Turned
+pub mod Keeping
+pub mod Standing
+pub mod Opening
+pub mod Working
+pub mod Showing
+pub mod Replay

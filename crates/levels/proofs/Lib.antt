@@ -1,0 +1,12 @@
+pub mod Lists
+pub mod Watching
+pub mod Storing
+pub mod Reaching
+pub mod Settling
+pub mod Standings
+pub mod Looking
+pub mod Extending
+pub mod Opening
+pub mod Counting
+pub mod Theorem
+pub mod Places

@@ -1,0 +1,5 @@
+pub mod Tops
+pub mod Amends
+pub mod Walks
+pub mod Growth
+pub mod Laws
