@@ -1,0 +1,4 @@
+pub mod Order
+pub mod Reach
+pub mod Held
+pub mod Calls
