@@ -5,3 +5,4 @@ pub mod Opening
 pub mod Working
 pub mod Showing
 pub mod Replay
+pub mod Lines

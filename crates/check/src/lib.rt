@@ -7,6 +7,8 @@ mod phase;
 mod replaying;
 mod shown;
 mod state;
+#[cfg(test)]
+mod tests;
 mod unit;
 mod verdict;
 mod work;

@@ -1,0 +1,12 @@
+pub mod Expressions
+pub mod Words
+pub mod Derivations
+pub mod LabelSets
+pub mod Nodes
+pub mod Table
+pub mod Charges
+pub mod Reading
+pub mod Pools
+pub mod Outcomes
+pub mod Joins
+pub mod Links

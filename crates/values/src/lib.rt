@@ -1,0 +1,5 @@
+// What expressions say of a moment.
+mod evaluate;
+
+pub use evaluate::holds;
+pub use evaluate::value;
