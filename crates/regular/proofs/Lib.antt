@@ -1,0 +1,4 @@
+pub mod Paths
+pub mod Members
+pub mod Meaning
+pub mod Told

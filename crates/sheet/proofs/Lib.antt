@@ -1,0 +1,16 @@
+pub mod Turns
+pub mod Passing
+pub mod Laying
+pub mod Growing
+pub mod Leaves
+pub mod Tabled
+pub mod Meant
+pub mod Going
+pub mod Drafted
+pub mod Items
+pub mod Rows
+pub mod Wholes
+pub mod Regrown
+pub mod Finished
+pub mod Sole
+pub mod Answering
