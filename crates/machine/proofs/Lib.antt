@@ -1,0 +1,4 @@
+pub mod Digits
+pub mod States
+pub mod Runs
+pub mod Standing

@@ -1,0 +1,10 @@
+pub mod Chains
+pub mod Parts
+pub mod Guards
+pub mod Shorter
+pub mod Compounds
+pub mod Bounding
+pub mod Letters
+pub mod Headed
+pub mod Linking
+pub mod Tables
