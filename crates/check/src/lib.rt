@@ -1,4 +1,6 @@
 // A check: every run of a cell against a watch, breadth first, in a table of the caller's.
+#![tactic(auto)]
+
 mod calls;
 mod keeping;
 mod onward;

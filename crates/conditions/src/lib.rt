@@ -1,4 +1,6 @@
 // A boolean expression as a text of its own.
+#![tactic(auto)]
+
 mod read;
 #[cfg(test)]
 mod tests;

@@ -1,4 +1,6 @@
 // A job file's two texts, and the lines of a report.
+#![tactic(auto)]
+
 mod parts;
 mod report;
 

@@ -1,4 +1,6 @@
 // Judging a job: from its bytes to a verdict with its run, or a refusal.
+#![tactic(auto)]
+
 mod deciding;
 mod desk;
 mod judging;

@@ -1,4 +1,6 @@
 // Reads a job from standard input and prints its report on standard output.
+#![tactic(auto)]
+
 ghost use Rattle.std.specs.Prelude.{◌≤◌, length, IfOk};
 
 use std::io;

@@ -1,4 +1,6 @@
 // Cutting a text into words.
+#![tactic(auto)]
+
 mod cutting;
 mod scan;
 mod words;

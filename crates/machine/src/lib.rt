@@ -1,4 +1,6 @@
 // Cycle programs as cells.
+#![tactic(auto)]
+
 mod cell;
 mod codes;
 mod perform;

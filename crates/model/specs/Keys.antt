@@ -14,7 +14,7 @@ pub record KeyMeaning (K : Type 0) : Type 0 where
 
 -- codes: equal numbers, and the number itself
 abbrev pub code_key : KeyMeaning ℕ
-code_key = record { alike = eqb; digest = λ x. x; sound = eqb-true; complete = λ x. eq-eqb x x refl }
+code_key = record { alike = λ x y. x == y; digest = λ x. x; sound = eqb-true; complete = λ x. eq-eqb x x refl }
 
 -- the odd number that digests multiply by, in 64 bits
 abbrev pub spread : ℕ → ℕ

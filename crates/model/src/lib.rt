@@ -1,4 +1,6 @@
 // What every crate shares: moments, refusals, keys, and the two interfaces of a check, cells and watches.
+#![tactic(auto)]
+
 mod answer;
 mod cell;
 mod configuration;

@@ -1,4 +1,6 @@
 // Cycle programs: reading a text into a cell whose runs are the program's prefix traces.
+#![tactic(auto)]
+
 mod assembly;
 mod board;
 mod boards;

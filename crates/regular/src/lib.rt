@@ -1,4 +1,6 @@
 // Regular expressions over assertions: their words, and the position automaton that follows them.
+#![tactic(auto)]
+
 mod law;
 mod positions;
 mod state;

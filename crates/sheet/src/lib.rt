@@ -1,4 +1,6 @@
 // Order sheets: regular expressions over assertions, read from a text, as a watch.
+#![tactic(auto)]
+
 mod automaton;
 mod descent;
 mod draft;

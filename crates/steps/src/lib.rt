@@ -1,4 +1,6 @@
 // Step tables: cells that come as plain rows and arcs.
+#![tactic(auto)]
+
 mod cell;
 mod fill;
 mod row;

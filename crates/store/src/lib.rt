@@ -1,4 +1,6 @@
 // The set of keys in the caller's row of records, with an index threaded through the records themselves.
+#![tactic(auto)]
+
 mod adding;
 mod chain;
 mod lookup;

@@ -1,4 +1,6 @@
 // The survey: which labels some run of a cell comes to, with the codes that runs come to in the caller's table.
+#![tactic(auto)]
+
 mod call;
 mod mark;
 mod outcome;

@@ -1,4 +1,6 @@
 // The words of texts, and the arithmetic and boolean expressions that programs, sheets and monitors share.
+#![tactic(auto)]
+
 mod arith;
 mod boolean;
 mod expressions;

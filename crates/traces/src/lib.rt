@@ -1,4 +1,6 @@
 // What a cycle program means: its tree, its labels, its prefix traces, and the codes of its states.
+#![tactic(auto)]
+
 mod making;
 mod range;
 mod theorem;

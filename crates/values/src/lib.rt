@@ -1,4 +1,6 @@
 // What expressions say of a moment.
+#![tactic(auto)]
+
 mod evaluate;
 
 pub use evaluate::{holds, value};
