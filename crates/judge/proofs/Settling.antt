@@ -17,14 +17,14 @@ use Rattle.levels.proofs.Theorem.{law, tally}
 use Rattle.store.specs.Entries.{entries}
 use Rattle.store.specs.declared.record.Record.{Record}
 use Rattle.store.proofs.Laws.{entries_take}
-use Rattle.check.specs.declared.state.Check.{Check}
-use Rattle.check.specs.Opening.{Opens}
-use Rattle.check.specs.Replay.{Tells}
-use Rattle.check.specs.Showing.{whole, shown, Handed, NoRun, ShownAll}
-use Rattle.check.specs.Standing as standing
-use Rattle.check.specs.Standing.{phase_of, after, answer, view, Stands}
-use Rattle.check.specs.Working.{Works}
-use Rattle.check.proofs.Answering.{trail_same, tells, told_stored}
+use Rattle.checking.specs.declared.state.Check.{Check}
+use Rattle.checking.specs.Opening.{Opens}
+use Rattle.checking.specs.Replay.{Tells}
+use Rattle.checking.specs.Showing.{whole, shown, Handed, NoRun, ShownAll}
+use Rattle.checking.specs.Standing as standing
+use Rattle.checking.specs.Standing.{phase_of, after, answer, view, Stands}
+use Rattle.checking.specs.Working.{Works}
+use Rattle.checking.proofs.Answering.{trail_same, tells, told_stored}
 use Rattle.judge.specs.Deciding.{Shown, Decided, Decides}
 
 -- a buffer that has the run's codes as far as there is room, and behind them its own

@@ -9,7 +9,7 @@ use Rattle.model.specs.declared.refusal.Refusal.{Refusal}
 use Rattle.levels.specs.Law.{Law, Tally}
 use Rattle.levels.specs.Units.{Outcome, working, passed, failed, full}
 use Rattle.store.specs.declared.record.Record.{Record}
-use Rattle.check.specs.Replay.{Tells}
+use Rattle.checking.specs.Replay.{Tells}
 
 -- the run that a fail shows, from the front of a buffer on, as much of it as there is room for; else the buffer is as it was
 abbrev pub Shown : Outcome → List ℕ → List ℕ → Type 0

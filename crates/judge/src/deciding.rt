@@ -1,7 +1,7 @@
 // Deciding every run of a cell against a watch in one go.
 ghost use Rattle.judge.specs.Deciding.{Decides};
 
-use check::Check;
+use checking::Check;
 use model::{Answer, Cell, Configuration, Refusal, Watch};
 use store::Record;
 

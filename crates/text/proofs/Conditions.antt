@@ -199,7 +199,7 @@ link_read j l s left w ws rest x x₁ y z i p node e c r same q = record {
     there = ap (λ ts. at_place ts p) q.tests ∙ ap (at_place (vec_items y.tests ++ node ∷ [])) (q.at_end ∙ vec_long y.tests) ∙ at_last (vec_items y.tests) node ∙ ap Some same
 
     longer : length (vec_items x.tests) ≤ length (vec_items y.tests)
-    longer = let b = ap length inner in let d = lib.ListN.length_append (vec_items x.tests) r.added_tests in omega arith
+    longer = let b = ap length inner in let d = lib.ListN.length-append (vec_items x.tests) r.added_tests in omega arith
 
     before : suc l ≡ vec_len x.tests → l < p
     before e' = let a = q.at_end in let b = vec_long y.tests in let d = vec_long x.tests in let f = longer in omega arith

@@ -5,12 +5,12 @@ use Rattle.job.proofs.report.verdict_line.Goals as goal
 
 pub returns : goal.returns
 returns c =
-    let last = c.put-spaced-end.ensures.put in
-    let w = wrote (λ i. c.verdict-word.ensures.value i ++ (spaced c.args.answer.now.count ++ (spaced c.args.answer.now.stored ++ (10 ∷ []))))
+    let last = c.put_spaced-end.ensures.put in
+    let w = wrote (λ i. c.verdict_word.ensures.value i ++ (spaced c.args.answer.now.count ++ (spaced c.args.answer.now.stored ++ (10 ∷ []))))
     c.if-out-lt-ROOM.false
-    (put_more c.put-word-count.ensures
-    (put_more c.put-spaced-stored.ensures.put
-    (put_more last c.put-byte.ensures (omega (arith, last.ends, c.verdict-word.ensures.short, c.put-word-count.ensures.ends)))
-    (omega (arith, c.put-spaced-stored.ensures.put.ends, c.verdict-word.ensures.short, c.put-word-count.ensures.ends)))
-    (omega (arith, c.verdict-word.ensures.short))) in
+    (put_more c.put_word-count.ensures
+    (put_more c.put_spaced-stored.ensures.put
+    (put_more last c.put_byte.ensures (omega (arith, last.ends, c.verdict_word.ensures.short, c.put_word-count.ensures.ends)))
+    (omega (arith, c.put_spaced-stored.ensures.put.ends, c.verdict_word.ensures.short, c.put_word-count.ensures.ends)))
+    (omega (arith, c.verdict_word.ensures.short))) in
     record { line = w.line; within = w.within }

@@ -6,17 +6,17 @@ use Rattle.steps.specs.Tables.{proper_rows}
 use Rattle.steps.proofs.Lists.{rows_more}
 use Rattle.steps.proofs.states.all_proper.Goals as goal
 
-pub returns-then-not-is-proper : goal.returns-then-not-is-proper
-returns-then-not-is-proper c = (
+pub returns-then-not-is_proper : goal.returns-then-not-is_proper
+returns-then-not-is_proper c = (
   c.loop-number.number,
   ap reply c.refused.ensures,
   c.loop-number-test.true,
   c.loop-number.invariant,
-  rows_more c.args.rows.now c.loop-number.number _ c.loop-number-test.true c.loop-number.invariant ∙ sym c.if-not-is-proper.ensures,
+  rows_more c.args.rows.now c.loop-number.number _ c.loop-number-test.true c.loop-number.invariant ∙ sym c.if-not-is_proper.ensures,
 )
 
 pub loop-number-preserved : goal.loop-number-preserved
-loop-number-preserved c = rows_more c.args.rows.now c.loop-number.number _ c.loop-number-test.true c.loop-number.invariant ∙ sym c.if-not-is-proper.ensures
+loop-number-preserved c = rows_more c.args.rows.now c.loop-number.number _ c.loop-number-test.true c.loop-number.invariant ∙ sym c.if-not-is_proper.ensures
 
 pub returns : goal.returns
 returns c = ap proper_rows (sym (take_all c.loop-number.number c.args.rows.now c.loop-number-test.false)) ∙ c.loop-number.invariant

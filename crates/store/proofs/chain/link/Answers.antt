@@ -5,8 +5,8 @@ use Rattle.store.proofs.Amends.{pick_read}
 use Rattle.store.proofs.Growth.{linked_is}
 use Rattle.store.proofs.chain.link.Goals as goal
 
-pub offset-bounds-table-at : goal.offset-bounds-table-at
-offset-bounds-table-at g c = let h : c.bucket_at.result < length c.args.table.now = omega arith in search rules
+pub offset_bounds-table-at : goal.offset_bounds-table-at
+offset_bounds-table-at g c = let h : c.bucket_at.result < length c.args.table.now = omega arith in search rules
 
 pub returns : goal.returns
 returns g c =
@@ -15,4 +15,4 @@ returns g c =
     linked_is g.K.Key.kind c.args.buckets xs _ _ c.args.place c.bucket_at.result _ _
     (c.bucket_at.ensures.value ∙ pick_read (λ r. bucket_of g.K.Key.kind c.args.buckets r.key) xs c.args.place c.index-table-place.result c.requires.place)
     (pick_read (λ r. r.head) xs c.bucket_at.result c.index-table-at.result low)
-    (add-one c.args.place) c.set-next.ensures c.set-head.ensures
+    (add-one c.args.place) c.set_next.ensures c.set_head.ensures

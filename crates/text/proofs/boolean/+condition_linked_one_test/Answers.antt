@@ -12,56 +12,56 @@ use Rattle.text.proofs.boolean.+condition_linked_one_test.Goals as goal
 pub linked-returns-then-not-count : goal.linked-returns-then-not-count
 linked-returns-then-not-count t c = stops_by _ _ (c.args.word ∷ c.args.rest.now) refl refl (link_many c.args.link _ _ _ c.args.word c.args.rest.now c.requires c.if-not-count.ensures.1)
 
-pub linked-returns-in-err-right : goal.linked-returns-in-err-right
-linked-returns-in-err-right t c = broken _ _ _ c.in-err-right.field-0.0 c.from-residual.ensures.1 (link_stopped c.args.link _ _ _ c.args.word c.args.rest.now c.args.room.now c.count.new.self _ c.requires c.if-not-count.ensures.1 c.in-err-right.ensures)
+pub linked-returns-in_err-right : goal.linked-returns-in_err-right
+linked-returns-in_err-right t c = broken _ _ _ c.in_err-right.field-0.0 c.from_residual.ensures.1 (link_stopped c.args.link _ _ _ c.args.word c.args.rest.now c.args.room.now c.count.new.self _ c.requires c.if-not-count.ensures.1 c.in_err-right.ensures)
 
 pub linked-returns : goal.linked-returns
-linked-returns t c = link_read c.args.link c.args.index _ _ c.args.word c.args.rest.now _ c.args.room.now c.count.new.self c.one_test.new.room c.push-test.new.self _ _ _ c.requires c.if-not-count.ensures c.in-ok-right.ensures c.link-node-node.ensures c.push-test.ensures
+linked-returns t c = link_read c.args.link c.args.index _ _ c.args.word c.args.rest.now _ c.args.room.now c.count.new.self c.one_test.new.room c.push_test.new.self _ _ _ c.requires c.if-not-count.ensures c.in_ok-right.ensures c.link_node-node.ensures c.push_test.ensures
 
-pub one-test-returns-in-default : goal.one-test-returns-in-default
-one-test-returns-in-default t c = refused_at one_test _ _ _ _ _ _ refl (subst (λ x. Quiet (rules_of one_test) x) (sym c.in-default.ensures) tt) c.unexpected.ensures
+pub one_test-returns-in_default : goal.one_test-returns-in_default
+one_test-returns-in_default t c = refused_at one_test _ _ _ _ _ _ refl (subst (λ x. Quiet (rules_of one_test) x) (sym c.in_default.ensures) tt) c.unexpected.ensures
 
-pub one-test-returns-then-left-eq0 : goal.one-test-returns-then-left-eq0
-one-test-returns-then-left-eq0 t c = stopped_at c.in-Some.ensures (stops_by _ _ (c.in-Some.word ∷ c.in-Some.rest.now) refl refl (bracket_deep one_test close_bracket OpenBracket CloseBracket (one_test ∷ joined ∷ []) _ 0 _ _ (λ p. refl) (λ k. omega arith) (λ k. refl) refl refl refl c.in-Some.word c.in-OpenBracket.is c.in-Some.rest.now c.if-left-eq0.true))
+pub one_test-returns-then-left-eq0 : goal.one_test-returns-then-left-eq0
+one_test-returns-then-left-eq0 t c = stopped_at c.in-Some.ensures (stops_by _ _ (c.in-Some.word ∷ c.in-Some.rest.now) refl refl (bracket_deep one_test close_bracket OpenBracket CloseBracket (one_test ∷ joined ∷ []) _ 0 _ _ (λ p. refl) (λ k. omega arith) (λ k. refl) refl refl refl c.in-Some.word c.in-OpenBracket.is c.in-Some.rest.now c.if-left-eq0.true))
 
-pub one-test-returns-in-err-inner : goal.one-test-returns-in-err-inner
-one-test-returns-in-err-inner t c =
-    let f = c.in-err-inner.ensures in
-    broken _ _ _ c.in-err-inner.field-0.0 c.from-residual.ensures.1
+pub one_test-returns-in_err-inner-in-OpenBracket : goal.one_test-returns-in_err-inner-in-OpenBracket
+one_test-returns-in_err-inner-in-OpenBracket t c =
+    let f = c.in_err-inner-in-OpenBracket.ensures in
+    broken _ _ _ c.in_err-inner-in-OpenBracket.field-0.0 c.from_residual.ensures.1
     (stopped_at c.in-Some.ensures (stops_by _ _ f.words refl f.place_is (bracket_inner one_test close_bracket OpenBracket CloseBracket (one_test ∷ joined ∷ []) _ 0 _ _ (λ p. refl) (λ k. omega arith) (λ k. refl) refl refl refl c.in-Some.word c.in-OpenBracket.is c.in-Some.rest.now _ f.words (omega arith) f.stops)))
 
-pub one-test-returns-in-err-behind : goal.one-test-returns-in-err-behind
-one-test-returns-in-err-behind t c =
-    let r = c.in-ok-inner.ensures in
-    let f = c.in-err-behind.ensures in
-    broken _ _ _ c.in-err-behind.field-0.0 c.from-residual-in-err-behind.ensures.1
-    (stopped_at c.in-Some.ensures (stops_by _ _ c.in-ok-inner.inner.rest.now f.0.cause_is f.0.place_is (bracket_open one_test close_bracket OpenBracket CloseBracket (one_test ∷ joined ∷ []) _ _ _ _ (λ p. refl) (λ k. omega arith) (λ k. refl) refl refl refl c.in-Some.word c.in-OpenBracket.is c.in-Some.rest.now _ (omega arith) r.goes f.1)))
+pub one_test-returns-in_err-behind-in-OpenBracket : goal.one_test-returns-in_err-behind-in-OpenBracket
+one_test-returns-in_err-behind-in-OpenBracket t c =
+    let r = c.in_ok-inner-in-OpenBracket.ensures in
+    let f = c.in_err-behind-in-OpenBracket.ensures in
+    broken _ _ _ c.in_err-behind-in-OpenBracket.field-0.0 c.from_residual-in_err-behind-in-OpenBracket.ensures.1
+    (stopped_at c.in-Some.ensures (stops_by _ _ c.in_ok-inner-in-OpenBracket.inner.rest.now f.0.cause_is f.0.place_is (bracket_open one_test close_bracket OpenBracket CloseBracket (one_test ∷ joined ∷ []) _ _ _ _ (λ p. refl) (λ k. omega arith) (λ k. refl) refl refl refl c.in-Some.word c.in-OpenBracket.is c.in-Some.rest.now _ (omega arith) r.goes f.1)))
 
-pub one-test-returns-in-ok-behind : goal.one-test-returns-in-ok-behind
-one-test-returns-in-ok-behind t c =
-    let r = c.in-ok-inner.ensures in
-    let k = c.in-ok-behind.ensures in
+pub one_test-returns-in_ok-behind-in-OpenBracket : goal.one_test-returns-in_ok-behind-in-OpenBracket
+one_test-returns-in_ok-behind-in-OpenBracket t c =
+    let r = c.in_ok-inner-in-OpenBracket.ensures in
+    let k = c.in_ok-behind-in-OpenBracket.ensures in
     read_at c.in-Some.ensures (group_read r (grouped c.in-OpenBracket.is r.derives k.1 (is_token k.0.token CloseBracket (lit≤ tt) refl k.2)) (bracket_goes one_test close_bracket OpenBracket CloseBracket (one_test ∷ joined ∷ []) _ _ _ _ (λ p. refl) (λ k. omega arith) (λ k. refl) refl refl refl c.in-Some.word c.in-OpenBracket.is c.in-Some.rest.now _ _ (omega arith) r.goes k))
 
-pub condition-returns-in-err-read : goal.condition-returns-in-err-read
-condition-returns-in-err-read t c = broken _ _ _ c.in-err-read.field-0.0 c.from-residual.ensures.1 (condition_stopped_first c.in-err-read.ensures)
+pub condition-returns-in_err-read : goal.condition-returns-in_err-read
+condition-returns-in_err-read t c = broken _ _ _ c.in_err-read.field-0.0 c.from_residual.ensures.1 (condition_stopped_first c.in_err-read.ensures)
 
 pub condition-loop-link-init : goal.condition-loop-link-init
 condition-loop-link-init t c = turned_none _ _ _ _ _
 
-pub condition-returns-in-err-read-2 : goal.condition-returns-in-err-read-2
-condition-returns-in-err-read-2 t c = broken _ _ _ c.in-err-read-2.field-0.0 c.from-residual-in-err-read-2.ensures.1 (condition_stopped c.in-ok-read.ensures c.loop-link.invariant (stopped_at c.in-Some.ensures.0 c.in-err-read-2.ensures))
+pub condition-returns-in_err-read-2 : goal.condition-returns-in_err-read-2
+condition-returns-in_err-read-2 t c = broken _ _ _ c.in_err-read-2.field-0.0 c.from_residual-in_err-read-2.ensures.1 (condition_stopped c.in_ok-read.ensures c.loop-link.invariant (stopped_at c.in-Some.ensures.0 c.in_err-read-2.ensures))
 
 pub condition-loop-link-smaller : goal.condition-loop-link-smaller
 condition-loop-link-smaller t c =
-    let j = c.in-ok-read-2.ensures in
+    let j = c.in_ok-read-2.ensures in
     let w = ap length c.in-Some.ensures.0 in
     let v = ap length j.words in
     let s = tests_shorter j.derives in
     omega (arith, w, v, s)
 
 pub condition-loop-link-preserved : goal.condition-loop-link-preserved
-condition-loop-link-preserved t c = turned_more _ _ _ _ _ _ _ _ _ _ _ c.in-Some.link c.in-Some.word c.in-Some.rest.now c.loop-link.invariant c.in-Some.ensures.0 c.in-Some.ensures.1 c.in-ok-read-2.ensures
+condition-loop-link-preserved t c = turned_more _ _ _ _ _ _ _ _ _ _ _ c.in-Some.link c.in-Some.word c.in-Some.rest.now c.loop-link.invariant c.in-Some.ensures.0 c.in-Some.ensures.1 c.in_ok-read-2.ensures
 
 pub condition-returns : goal.condition-returns
-condition-returns t c = condition_read _ _ _ _ _ _ _ _ _ _ c.in-ok-read.ensures c.loop-link.invariant c.in-default.ensures
+condition-returns t c = condition_read _ _ _ _ _ _ _ _ _ _ c.in_ok-read.ensures c.loop-link.invariant c.in_default.ensures

@@ -8,8 +8,8 @@ decreases-condition l = 3 * l.left + 2
 abbrev pub decreases-linked : goal.decreases-linked
 decreases-linked l = 3 * l.left + 1
 
-abbrev pub decreases-one-test : goal.decreases-one-test
-decreases-one-test l = 3 * l.left
+abbrev pub decreases-one_test : goal.decreases-one_test
+decreases-one_test l = 3 * l.left
 
 abbrev pub invariant-condition-loop-link : goal.invariant-condition-loop-link
 invariant-condition-loop-link l = Turned l.limits.scope l.left l.initial.room l.initial.read.index l.initial.read.rest.now l.room l.read.index l.read.rest.now

@@ -3,5 +3,5 @@ use Rattle.std.proofs.Common.{refl}
 use Rattle.std.proofs.lemmas.List.{get_or-replicate}
 use Rattle.steps.proofs.table.StepTable.new.Goals as goal
 
-pub invariant-of-result : goal.invariant-of-result
-invariant-of-result c = (refl, ((refl, refl), (λ r h. get_or-replicate 256 r 0 0 h, (λ r h. refl, tt))))
+pub invariant_of-result : goal.invariant_of-result
+invariant_of-result c = (refl, ((refl, refl), (λ r h. get_or-replicate 256 r 0 0 h, (λ r h. refl, tt))))

@@ -1,6 +1,0 @@
-use Rattle.std.proofs.Common.{◌≡◌, ◌-◌}
-use Rattle.check.specs.Showing.{back_at, whole}
-use Rattle.check.proofs.shown.back.Given as goal
-
-abbrev pub invariant-loop-step : goal.invariant-loop-step
-invariant-loop-step g l = back_at (whole l.table) l.steps l.place ≡ back_at (whole l.table) (l.steps - l.-step) l.at

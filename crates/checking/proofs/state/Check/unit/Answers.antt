@@ -1,0 +1,26 @@
+use Rattle.std.proofs.Common.{◌≡◌, get_or, sym, refl, ap, ◌∙◌, subst, arith}
+use Rattle.store.proofs.Laws.{entry_read}
+use Rattle.store.specs.Entries.{entry}
+use Rattle.checking.proofs.Turns.{adds_none, adds_trans, adds_same}
+use Rattle.checking.proofs.Standings.{settled_stands, next_inside, next_stored, unit_stands}
+use Rattle.checking.proofs.state.Check.unit.Goals as goal
+
+pub returns-in-default : goal.returns-in-default
+returns-in-default g c =
+    record { adds = adds_none _ _; stands = λ u s. settled_stands _ _ _ u _ _ s (sym c.place.ensures ∙ c.in-default.is) }
+
+pub returns-then-place-table : goal.returns-then-place-table
+returns-then-place-table g c =
+    record { adds = adds_none _ _; stands = λ u s. absurd (omega (arith, next_inside _ _ _ u _ _ s c.in-Some.place (sym c.place.ensures ∙ c.in-Some.is))) }
+
+pub returns : goal.returns
+returns g c =
+    record {
+      adds = adds_trans c.through.ensures.adds (adds_same _ _ _ _ c.advance.ensures.kept.0 c.advance.ensures.kept.1 refl);
+      stands = λ u s.
+          let p = sym c.place.ensures ∙ c.in-Some.is in
+          let read = get_or c.args.table.now c.in-Some.place c.index-table-place.result in
+          let there = entry_read _ _ c.in-Some.place read (next_stored _ _ _ u _ _ s c.in-Some.place p) c.if-place-table.false (ap (get_or c.args.table.now c.in-Some.place) c.index-table-place.is) in
+          unit_stands _ _ _ u _ _ s c.through.new.self c.advance.new.self c.through.new.table c.in-Some.place (entry read) p there
+          c.through.auto.table c.through.ensures.adds c.through.ensures.goes c.through.ensures.counts c.advance.ensures.kept c.advance.ensures.phase;
+    }
