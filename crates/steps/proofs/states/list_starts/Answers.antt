@@ -15,13 +15,13 @@ loop-number-preserved c =
     let low : n < length c.loop-number.starts = omega arith in
     elim c.if-row.branch [
       | then-row w ↦ (
-        omega (arith, w.count_is),
-        begun_at (take (i + 1) rs) _ _ c.if-row.starts c.if-row.count w.starts-is w.count_is
+        omega (arith, w.count-is),
+        begun_at (take (i + 1) rs) _ _ c.if-row.starts c.if-row.count w.starts-is w.count-is
             (begun_start rs i n c.loop-number.starts _ (at_getD rs i _ c.loop-number-test.true) c.loop-number.invariant.1 w.if-row.true low),
       )
       | else-row w ↦ (
-        omega (arith, w.count_is),
-        begun_at (take (i + 1) rs) _ _ c.if-row.starts c.if-row.count w.starts-is w.count_is
+        omega (arith, w.count-is),
+        begun_at (take (i + 1) rs) _ _ c.if-row.starts c.if-row.count w.starts-is w.count-is
             (begun_other rs i n c.loop-number.starts _ (at_getD rs i _ c.loop-number-test.true) c.loop-number.invariant.1 w.if-row.false),
       )
     ]
