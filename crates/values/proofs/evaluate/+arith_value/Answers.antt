@@ -34,16 +34,16 @@ returns-in-Initial t c =
 
 pub returns-else-b-index : goal.returns-else-b-index
 returns-else-b-index t c =
-    let f : SFits w32 c.saturating-add.result = search rules in
-    let fx : SFits w32 c.arith-value.result = search rules in
-    let fy : SFits w32 c.arith-value-in-Plus.result = search rules in
-    through c.args.moment.now c.args.nodes.now c.args.index c.saturating-add.result f
-    (value_plus c.args.moment.now c.args.nodes.now c.args.index c.in-Plus.a c.in-Plus.b c.arith-value.result c.arith-value-in-Plus.result c.saturating-add.result c.requires (omega arith) (at_getD c.args.nodes.now c.args.index _ (omega arith) ∙ ap Some c.in-Plus.is) c.arith-value.ensures c.arith-value-in-Plus.ensures (c.saturating-add.ensures ∙ ap (λ v. saturate_to_bits 31 (v +ℤ to_z w32 (of_z w32 c.arith-value-in-Plus.result))) (to_z-of_z w32 c.arith-value.result fx) ∙ ap (λ v. saturate_to_bits 31 (c.arith-value.result +ℤ v)) (to_z-of_z w32 c.arith-value-in-Plus.result fy)))
+    let f : SFits w32 c.saturating_add.result = search rules in
+    let fx : SFits w32 c.arith_value.result = search rules in
+    let fy : SFits w32 c.arith_value-in-Plus.result = search rules in
+    through c.args.moment.now c.args.nodes.now c.args.index c.saturating_add.result f
+    (value_plus c.args.moment.now c.args.nodes.now c.args.index c.in-Plus.a c.in-Plus.b c.arith_value.result c.arith_value-in-Plus.result c.saturating_add.result c.requires (omega arith) (at_getD c.args.nodes.now c.args.index _ (omega arith) ∙ ap Some c.in-Plus.is) c.arith_value.ensures c.arith_value-in-Plus.ensures (c.saturating_add.ensures ∙ ap (λ v. saturate_to_bits 31 (v +ℤ to_z w32 (of_z w32 c.arith_value-in-Plus.result))) (to_z-of_z w32 c.arith_value.result fx) ∙ ap (λ v. saturate_to_bits 31 (c.arith_value.result +ℤ v)) (to_z-of_z w32 c.arith_value-in-Plus.result fy)))
 
 pub returns-else-b-index-2 : goal.returns-else-b-index-2
 returns-else-b-index-2 t c =
-    let f : SFits w32 c.saturating-sub.result = search rules in
-    let fx : SFits w32 c.arith-value-in-Minus.result = search rules in
-    let fy : SFits w32 c.arith-value-in-Minus-2.result = search rules in
-    through c.args.moment.now c.args.nodes.now c.args.index c.saturating-sub.result f
-    (value_minus c.args.moment.now c.args.nodes.now c.args.index c.in-Minus.a c.in-Minus.b c.arith-value-in-Minus.result c.arith-value-in-Minus-2.result c.saturating-sub.result c.requires (omega arith) (at_getD c.args.nodes.now c.args.index _ (omega arith) ∙ ap Some c.in-Minus.is) c.arith-value-in-Minus.ensures c.arith-value-in-Minus-2.ensures (c.saturating-sub.ensures ∙ ap (λ v. saturate_to_bits 31 (v -ℤ to_z w32 (of_z w32 c.arith-value-in-Minus-2.result))) (to_z-of_z w32 c.arith-value-in-Minus.result fx) ∙ ap (λ v. saturate_to_bits 31 (c.arith-value-in-Minus.result -ℤ v)) (to_z-of_z w32 c.arith-value-in-Minus-2.result fy)))
+    let f : SFits w32 c.saturating_sub.result = search rules in
+    let fx : SFits w32 c.arith_value-in-Minus.result = search rules in
+    let fy : SFits w32 c.arith_value-in-Minus-2.result = search rules in
+    through c.args.moment.now c.args.nodes.now c.args.index c.saturating_sub.result f
+    (value_minus c.args.moment.now c.args.nodes.now c.args.index c.in-Minus.a c.in-Minus.b c.arith_value-in-Minus.result c.arith_value-in-Minus-2.result c.saturating_sub.result c.requires (omega arith) (at_getD c.args.nodes.now c.args.index _ (omega arith) ∙ ap Some c.in-Minus.is) c.arith_value-in-Minus.ensures c.arith_value-in-Minus-2.ensures (c.saturating_sub.ensures ∙ ap (λ v. saturate_to_bits 31 (v -ℤ to_z w32 (of_z w32 c.arith_value-in-Minus-2.result))) (to_z-of_z w32 c.arith_value-in-Minus.result fx) ∙ ap (λ v. saturate_to_bits 31 (c.arith_value-in-Minus.result -ℤ v)) (to_z-of_z w32 c.arith_value-in-Minus-2.result fy)))

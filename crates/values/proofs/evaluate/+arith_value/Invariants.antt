@@ -1,4 +1,4 @@
 use Rattle.values.proofs.evaluate.+arith_value.Given as goal
 
-abbrev pub decreases-arith-value : goal.decreases-arith-value
-decreases-arith-value l = l.index
+abbrev pub decreases-arith_value : goal.decreases-arith_value
+decreases-arith_value l = l.index

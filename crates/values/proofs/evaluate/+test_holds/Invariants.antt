@@ -1,4 +1,4 @@
 use Rattle.values.proofs.evaluate.+test_holds.Given as goal
 
-abbrev pub decreases-test-holds : goal.decreases-test-holds
-decreases-test-holds l = l.index
+abbrev pub decreases-test_holds : goal.decreases-test_holds
+decreases-test_holds l = l.index

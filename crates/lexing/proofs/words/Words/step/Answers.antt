@@ -15,8 +15,8 @@ returns-then-separator c =
       few = λ l. omega arith;
     }
 
-pub overflow-add-result-2 : goal.overflow-add-result-2
-overflow-add-result-2 c =
+pub overflow_add-result-2 : goal.overflow_add-result-2
+overflow_add-result-2 c =
     let h : c.args.place < length c.args.text.now = c.requires.0 in
     let f = c.front-token.ensures _ _ (part_is c.args.text.now c.args.place h) in
     let w = step_within c.args.text.now c.args.place h in
@@ -34,6 +34,6 @@ returns c =
     record {
       onward = omega (arith, f.1, o);
       within = omega (arith, f.1, w);
-      same = ap (λ ws. ws ++ words_from (p + c.front-token.result.1) 0 (drop (p + c.front-token.result.1) text)) c.push-reserved.ensures.items ∙ word_same text p h (vec_items c.args.self.now.list) _ _ (part_first text p h separates false c.if-separator.ensures) f.0 f.1;
-      few = λ l. omega (arith, c.push-reserved.ensures.len, f.1, o);
+      same = ap (λ ws. ws ++ words_from (p + c.front-token.result.1) 0 (drop (p + c.front-token.result.1) text)) c.push_reserved.ensures.items ∙ word_same text p h (vec_items c.args.self.now.list) _ _ (part_first text p h separates false c.if-separator.ensures) f.0 f.1;
+      few = λ l. omega (arith, c.push_reserved.ensures.len, f.1, o);
     }

@@ -12,8 +12,8 @@ returns-then-low-from c = improper c.args.low c.args.high c.args.from c.args.to 
 pub returns-then-high-low-gt63 : goal.returns-then-high-low-gt63
 returns-then-high-low-gt63 c = improper c.args.low c.args.high c.args.from c.args.to (λ o. let a = o.floor in let b = o.ceiling in let d = o.first in let e = o.some in let f = o.last in let g = o.narrow in omega (arith, ints))
 
-pub invariant-of-result : goal.invariant-of-result
-invariant-of-result c =
+pub invariant_of-result : goal.invariant_of-result
+invariant_of-result c =
     let o : Ordered c.args.low c.args.high c.args.from c.args.to = record { floor = omega (arith, ints); ceiling = omega (arith, ints); first = omega (arith, ints); some = omega (arith, ints); last = omega (arith, ints); narrow = omega (arith, ints) } in
     let p = is_proper c.args.low c.args.high c.args.from c.args.to o in
-    ((simp (to_z-of_z, c.ranges.low, c.ranges.high, c.ranges.from, c.ranges.to) p), tt)
+    record { sound = simp (to_z-of_z, c.ranges.low, c.ranges.high, c.ranges.from, c.ranges.to) p }
