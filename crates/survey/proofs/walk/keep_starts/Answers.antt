@@ -3,10 +3,10 @@ use Rattle.std.proofs.Common.{◌<◌, [], length, arith}
 use Rattle.survey.proofs.Holding.{some_below, none_above, started, started_none, gathered_all}
 use Rattle.survey.proofs.walk.keep_starts.Goals as goal
 
-pub returns-in-default-keep : goal.returns-in-default-keep
-returns-in-default-keep g c =
+pub returns-in_default-keep : goal.returns-in_default-keep
+returns-in_default-keep g c =
     started_none (g.C.Cell.cell c.args.cell.now).starts c.loop-code.place c.in-Some.code c.in-Some.ensures
-    c.args.table.now c.loop-code.table c.keep.new.table c.loop-code.stored c.loop-code.invariant.1 c.in-default-keep.ensures
+    c.args.table.now c.loop-code.table c.keep.new.table c.loop-code.stored c.loop-code.invariant.1 c.in_default-keep.ensures
 
 pub loop-code-smaller : goal.loop-code-smaller
 loop-code-smaller g c =
@@ -24,4 +24,4 @@ loop-code-preserved g c =
 pub returns : goal.returns
 returns g c =
     gathered_all length (g.C.Cell.cell c.args.cell.now).starts [] c.loop-code.place c.args.table.now c.loop-code.table c.loop-code.stored
-    (none_above (g.C.Cell.cell c.args.cell.now).starts c.loop-code.place c.in-default.ensures) c.loop-code.invariant.1
+    (none_above (g.C.Cell.cell c.args.cell.now).starts c.loop-code.place c.in_default.ensures) c.loop-code.invariant.1
