@@ -34,7 +34,10 @@ invariant-of-result c =
     let n = as_long ns ts (vec_items b.drafts) p.0 p.1 in
     let k = vec_long b.drafts in
     let f = b.few in
-    (sound_of c.args.header.now c.full.result _ p.0 c.requires.0 c.full.ensures l.0 (omega arith), (l.1, tt))
+    record {
+      is = sound_of c.args.header.now c.full.result _ p.0 c.requires.0 c.full.ensures l.0 (omega arith);
+      whole = l.1;
+    }
 
 pub returns : goal.returns
 returns c =
