@@ -3,7 +3,7 @@ use Rattle.std.proofs.lemmas.Int.{ints, to_z-of_z}
 use Rattle.std.proofs.lemmas.List.{drop_all}
 use Rattle.traces.specs.Codes.{packed}
 use Rattle.traces.specs.Tables.{above}
-use Rattle.machine.proofs.codes.pack.Goals.{After-digit-arg·1}
+use Rattle.machine.proofs.codes.pack.Goals.{After-digit-arg-1}
 use Rattle.traces.proofs.Packing.{above_le, narrow}
 use Rattle.machine.proofs.Digits.{fits_at, packed_more, packed_room, back}
 use Rattle.machine.proofs.codes.pack.Goals as goal
@@ -11,11 +11,11 @@ use Rattle.machine.proofs.codes.pack.Goals as goal
 pub loop-i-init : goal.loop-i-init
 loop-i-init c = sym (ap (λ qs. packed qs (drop 6 c.args.values.now)) (drop_all 6 c.args.ranges.now (omega arith)))
 
-pub overflow-mul-sum : goal.overflow-mul-sum
-overflow-mul-sum c = let r = packed_room c.args.ranges.now c.args.values.now c.loop-i.i c.loop-i.sum c.requires (omega arith) c.told-ranges c.loop-i.invariant in omega arith
+pub overflow_mul-sum : goal.overflow_mul-sum
+overflow_mul-sum c = let r = packed_room c.args.ranges.now c.args.values.now c.loop-i.i c.loop-i.sum c.requires (omega arith) c.told-ranges c.loop-i.invariant in omega arith
 
 -- the value at hand is in its range
-held : (c : After-digit-arg·1) → ((get_or c.args.ranges.now (c.loop-i.i - 1) c.index-ranges-i.result).low ≤ℤ get_or c.args.values.now (c.loop-i.i - 1) (pos 0))
+held : (c : After-digit-arg-1) → ((get_or c.args.ranges.now (c.loop-i.i - 1) c.index-ranges-i.result).low ≤ℤ get_or c.args.values.now (c.loop-i.i - 1) (pos 0))
     × (get_or c.args.values.now (c.loop-i.i - 1) (pos 0) ≤ℤ (get_or c.args.ranges.now (c.loop-i.i - 1) c.index-ranges-i.result).high)
 held c = fits_at c.args.ranges.now c.args.values.now (c.loop-i.i - 1) c.index-ranges-i.result c.requires (omega arith)
 
@@ -25,8 +25,8 @@ digit-requires c =
     let b = back (get_or c.args.ranges.now (c.loop-i.i - 1) c.index-ranges-i.result) (get_or c.args.values.now (c.loop-i.i - 1) (pos 0)) f.0 f.1 in
     rw b f
 
-pub overflow-add-sum : goal.overflow-add-sum
-overflow-add-sum c =
+pub overflow_add-sum : goal.overflow_add-sum
+overflow_add-sum c =
     let r = packed_room c.args.ranges.now c.args.values.now c.loop-i.i c.loop-i.sum c.requires (omega arith) c.told-ranges c.loop-i.invariant in
     let f = fits_at c.args.ranges.now c.args.values.now (c.loop-i.i - 1) c.index-ranges-i.result c.requires (omega arith) in
     let b = back (get_or c.args.ranges.now (c.loop-i.i - 1) c.index-ranges-i.result) (get_or c.args.values.now (c.loop-i.i - 1) (pos 0)) f.0 f.1 in

@@ -18,14 +18,14 @@ room c =
     let d : c.first.result + c.loop-range.rest % c.starts-count.result ≤ 63 = omega arith in
     record { digit = d; product = digit_room _ c.loop-range.weight d; weight = weight_room c.loop-range.range-index c.loop-range.weight (omega arith) c.loop-range.invariant.0 }
 
-pub overflow-mul-sum : goal.overflow-mul-sum
-overflow-mul-sum c = let r = room c in let p = r.product in let w = r.weight in omega arith
+pub overflow_mul-sum : goal.overflow_mul-sum
+overflow_mul-sum c = let r = room c in let p = r.product in let w = r.weight in omega arith
 
-pub overflow-add-sum : goal.overflow-add-sum
-overflow-add-sum c = let r = room c in let p = r.product in let w = r.weight in let i = c.loop-range.invariant.1 in omega arith
+pub overflow_add-sum : goal.overflow_add-sum
+overflow_add-sum c = let r = room c in let p = r.product in let w = r.weight in let i = c.loop-range.invariant.1 in omega arith
 
-pub overflow-mul-weight : goal.overflow-mul-weight
-overflow-mul-weight c = let r = room c in let w = r.weight in omega arith
+pub overflow_mul-weight : goal.overflow_mul-weight
+overflow_mul-weight c = let r = room c in let w = r.weight in omega arith
 
 pub loop-range-preserved : goal.loop-range-preserved
 loop-range-preserved c =

@@ -15,21 +15,21 @@ link-requires c =
     let ts = vec_items b.expressions.tests in
     let k = vec_long b.drafts in
     let f = b.few in
-    let l = c.as-slice.ensures.len in (
-      (ns, ts, p.0, subst (λ ds. DraftsFor ns ts ds (drafts p.0 0 None)) (sym c.as-slice.ensures.value) p.1),
+    let l = c.as_slice.ensures.len in (
+      (ns, ts, p.0, subst (λ ds. DraftsFor ns ts ds (drafts p.0 0 None)) (sym c.as_slice.ensures.value) p.1),
       (omega arith, (c.requires.1.1.0, no_items (vec_items c.args.statements) (sym (vec_long c.args.statements) ∙ c.requires.1.1.1))),
     )
 
 pub full-requires : goal.full-requires
 full-requires c = c.requires.0.six
 
-pub invariant-of-result : goal.invariant-of-result
-invariant-of-result c =
+pub invariant_of-result : goal.invariant_of-result
+invariant_of-result c =
     let b = c.args.board in
     let p = c.requires.1.0 in
     let ns = vec_items b.expressions.ariths in
     let ts = vec_items b.expressions.tests in
-    let s = subst (λ ds. DraftsFor ns ts ds (drafts p.0 0 None)) (sym c.as-slice.ensures.value) p.1 in
+    let s = subst (λ ds. DraftsFor ns ts ds (drafts p.0 0 None)) (sym c.as_slice.ensures.value) p.1 in
     let l = c.link.ensures ns ts p.0 s in
     let n = as_long ns ts (vec_items b.drafts) p.0 p.1 in
     let k = vec_long b.drafts in
@@ -46,5 +46,5 @@ returns c =
     let ts = vec_items b.expressions.tests in
     record {
       ranges = c.full.ensures;
-      linked = λ body s. (c.link.ensures ns ts body (subst (λ ds. DraftsFor ns ts ds (drafts body 0 None)) (sym c.as-slice.ensures.value) s)).0;
+      linked = λ body s. (c.link.ensures ns ts body (subst (λ ds. DraftsFor ns ts ds (drafts body 0 None)) (sym c.as_slice.ensures.value) s)).0;
     }

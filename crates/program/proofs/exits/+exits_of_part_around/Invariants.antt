@@ -1,8 +1,8 @@
 use Rattle.std.proofs.Common.{◌+◌, ◌*◌}
 use Rattle.program.proofs.exits.+exits_of_part_around.Given as goal
 
-abbrev pub decreases-exits-of : goal.decreases-exits-of
-decreases-exits-of l = 2 * l.label + 1
+abbrev pub decreases-exits_of : goal.decreases-exits_of
+decreases-exits_of l = 2 * l.label + 1
 
-abbrev pub decreases-part-around : goal.decreases-part-around
-decreases-part-around l = 2 * l.label
+abbrev pub decreases-part_around : goal.decreases-part_around
+decreases-part_around l = 2 * l.label

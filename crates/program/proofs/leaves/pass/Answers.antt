@@ -12,8 +12,8 @@ use Rattle.program.proofs.Chains.{set_unknown, set_many, set_sign, set_sum, set_
 use Rattle.program.proofs.Parts.{phrase_stops, leaf_read, grown_none, arith_grown}
 use Rattle.program.proofs.leaves.pass.Goals as goal
 
-pub returns-then-len-ge-MOST-STATEMENTS : goal.returns-then-len-ge-MOST-STATEMENTS
-returns-then-len-ge-MOST-STATEMENTS c = phrase_stops _ _ (c.args.word ∷ c.args.rest.now) refl refl (pass_many _ _ _ _ _ c.args.word c.args.rest.now c.requires (let e = c.len.ensures in omega arith))
+pub returns-then-len-ge-MOST_STATEMENTS : goal.returns-then-len-ge-MOST_STATEMENTS
+returns-then-len-ge-MOST_STATEMENTS c = phrase_stops _ _ (c.args.word ∷ c.args.rest.now) refl refl (pass_many _ _ _ _ _ c.args.word c.args.rest.now c.requires (let e = c.len.ensures in omega arith))
 
 pub returns : goal.returns
 returns c =

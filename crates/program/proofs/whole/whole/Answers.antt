@@ -8,21 +8,21 @@ pub declarations-requires : goal.declarations-requires
 declarations-requires c = blank_read c.args.words.now c.args.header.now c.requires.0
 
 pub flags-requires : goal.flags-requires
-flags-requires c = c.in-ok-body.ensures.0.heads.six
+flags-requires c = c.in_ok-body.ensures.0.heads.six
 
-pub returns-in-err-rest : goal.returns-in-err-rest
-returns-in-err-rest c =
-    let d = c.in-ok-body.ensures in
-    broken _ _ _ c.in-err-rest.field-0.0 c.from-residual-in-err-rest.ensures.1
-    (list_stopped c.args.words.now c.declarations.new.header _ d.0 d.1 _ c.args.board.now c.requires.1.0 c.requires.1.1 (ap Declared c.flags.ensures) refl refl _ c.in-err-rest.ensures)
+pub returns-in_err-rest : goal.returns-in_err-rest
+returns-in_err-rest c =
+    let d = c.in_ok-body.ensures in
+    broken _ _ _ c.in_err-rest.field-0.0 c.from_residual-in_err-rest.ensures.1
+    (list_stopped c.args.words.now c.declarations.new.header _ d.0 d.1 _ c.args.board.now c.requires.1.0 c.requires.1.1 (ap Declared c.flags.ensures) refl refl _ c.in_err-rest.ensures)
 
 pub returns-in-Some : goal.returns-in-Some
 returns-in-Some c =
-    let d = c.in-ok-body.ensures in
-    too_much c.args.words.now c.declarations.new.header _ d.0 d.1 _ c.args.board.now c.requires.1.0 c.requires.1.1 (ap Declared c.flags.ensures) refl refl c.list.new.board _ c.in-ok-rest.ensures
+    let d = c.in_ok-body.ensures in
+    too_much c.args.words.now c.declarations.new.header _ d.0 d.1 _ c.args.board.now c.requires.1.0 c.requires.1.1 (ap Declared c.flags.ensures) refl refl c.list.new.board _ c.in_ok-rest.ensures
     c.in-Some.field-0.0 c.in-Some.field-0.1.now _ c.in-Some.ensures c.unexpected.ensures
 
 pub returns-in-None : goal.returns-in-None
 returns-in-None c =
-    let d = c.in-ok-body.ensures in
-    whole_read c.args.words.now c.declarations.new.header _ d.0 d.1 _ c.args.board.now c.requires.1.0 c.requires.1.1 (ap Declared c.flags.ensures) refl refl c.list.new.board _ c.in-ok-rest.ensures refl c.in-None.ensures
+    let d = c.in_ok-body.ensures in
+    whole_read c.args.words.now c.declarations.new.header _ d.0 d.1 _ c.args.board.now c.requires.1.0 c.requires.1.1 (ap Declared c.flags.ensures) refl refl c.list.new.board _ c.in_ok-rest.ensures refl c.in-None.ensures

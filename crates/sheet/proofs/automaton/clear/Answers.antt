@@ -7,4 +7,4 @@ pub loop-place-init : goal.loop-place-init
 loop-place-init c = (empty_list (vec_items c.args.follow.now) (omega (arith, c.args.follow.now.ok)), c.requires.0, refl)
 
 pub loop-place-preserved : goal.loop-place-preserved
-loop-place-preserved c = (c.push-reserved.ensures.items ∙ ap (λ (x : List ℕ). x ++ 0 ∷ []) c.loop-place.invariant.0 ∙ replicate_push c.loop-place.-place 0, omega arith, c.push-reserved.ensures.capacity ∙ c.loop-place.invariant.2)
+loop-place-preserved c = (c.push_reserved.ensures.items ∙ ap (λ (x : List ℕ). x ++ 0 ∷ []) c.loop-place.invariant.0 ∙ replicate_push c.loop-place._place 0, omega arith, c.push_reserved.ensures.capacity ∙ c.loop-place.invariant.2)

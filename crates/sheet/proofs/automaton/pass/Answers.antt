@@ -14,15 +14,15 @@ loop-node-preserved c =
     let xs = c.args.nodes.now in
     let i = c.loop-node.node-index in
     let ss = vec_items c.loop-node.summaries in
-    let more = vec_items c.push-reserved.new.self in
+    let more = vec_items c.push_reserved.new.self in
     let s = c.summarize-summary.result in
     let is = c.summarize-summary.ensures ∙ ap (λ (x : List Summary). summary x (get_or xs i Empty)) c.deref.ensures.value in
-    let grown = c.push-reserved.ensures.items in
+    let grown = c.push_reserved.ensures.items in
     let linking = c.link.ensures ∙ ap (λ (x : List Summary). linked x c.loop-node.follow (get_or xs i Empty)) c.deref-in-loop-node.ensures.value in (
       summaries_turn xs i ss more s (all_summaries (vec_items c.args.summaries.now) xs) c.loop-node-test.true is grown c.loop-node.invariant.0,
       links_turn xs i ss more s c.loop-node.follow c.link.new.follow (links (vec_items c.args.summaries.now) c.args.follow.now xs) c.loop-node-test.true is grown linking c.loop-node.invariant.1,
       omega arith,
-      c.push-reserved.ensures.capacity ∙ c.loop-node.invariant.3,
+      c.push_reserved.ensures.capacity ∙ c.loop-node.invariant.3,
     )
 
 pub returns : goal.returns

@@ -9,90 +9,90 @@ use Rattle.sheet.proofs.Items.{stopped_at}
 use Rattle.sheet.proofs.Rows.{unit_at, item_read, item_unit_stopped, item_repeats_stopped, next_item, rowing_none, rowing_more, row_read, row_first_stopped, row_stopped, next_row, next_row_stopped, next_row_many, choosing_none, choosing_more, choice_read, choice_stopped, group_read, group_inner_stopped, group_open, group_deep, unit_refused, shorter}
 use Rattle.sheet.proofs.descent.+choice_item_next_item_next_row_row_unit.Goals as goal
 
-pub choice-returns-in-err-read-2 : goal.choice-returns-in-err-read-2
-choice-returns-in-err-read-2 t c = broken _ _ _ c.in-err-read-2.field-0.0 c.from-residual-in-err-read-2.ensures.1 (choice_stopped _ _ _ _ _ _ _ _ _ c.in-Some.word c.in-Some.rest.now _ _ c.in-ok-read.ensures c.loop-word.invariant c.in-Some.ensures.0 c.in-err-read-2.ensures)
+pub choice-returns-in_err-read-2 : goal.choice-returns-in_err-read-2
+choice-returns-in_err-read-2 t c = broken _ _ _ c.in_err-read-2.field-0.0 c.from_residual-in_err-read-2.ensures.1 (choice_stopped _ _ _ _ _ _ _ _ _ c.in-Some.word c.in-Some.rest.now _ _ c.in_ok-read.ensures c.loop-word.invariant c.in-Some.ensures.0 c.in_err-read-2.ensures)
 
 pub choice-loop-word-smaller : goal.choice-loop-word-smaller
 choice-loop-word-smaller t c =
-    let n = c.in-ok-read-2.ensures in
+    let n = c.in_ok-read-2.ensures in
     let w = ap length c.in-Some.ensures.0 in
     let s = shorter n.derives in
     omega (arith, w, s)
 
 pub choice-loop-word-preserved : goal.choice-loop-word-preserved
-choice-loop-word-preserved t c = choosing_more _ _ _ _ _ _ _ c.in-Some.word c.in-Some.rest.now _ _ _ c.loop-word.invariant c.in-Some.ensures.0 c.in-Some.ensures.1 c.in-ok-read-2.ensures
+choice-loop-word-preserved t c = choosing_more _ _ _ _ _ _ _ c.in-Some.word c.in-Some.rest.now _ _ _ c.loop-word.invariant c.in-Some.ensures.0 c.in-Some.ensures.1 c.in_ok-read-2.ensures
 
 pub choice-returns : goal.choice-returns
-choice-returns t c = choice_read _ _ _ _ _ _ _ _ _ c.in-ok-read.ensures c.loop-word.invariant c.in-default.ensures
+choice-returns t c = choice_read _ _ _ _ _ _ _ _ _ c.in_ok-read.ensures c.loop-word.invariant c.in_default.ensures
 
-pub item-returns-in-err-bare : goal.item-returns-in-err-bare
-item-returns-in-err-bare t c = broken _ _ _ c.in-err-bare.field-0.0 c.from-residual.ensures.1 (item_unit_stopped c.args.draft.now c.args.left c.args.words.now c.args.end _ c.in-err-bare.ensures)
+pub item-returns-in_err-bare : goal.item-returns-in_err-bare
+item-returns-in_err-bare t c = broken _ _ _ c.in_err-bare.field-0.0 c.from_residual.ensures.1 (item_unit_stopped c.args.draft.now c.args.left c.args.words.now c.args.end _ c.in_err-bare.ensures)
 
 pub item-returns : goal.item-returns
 item-returns t c =
-    let u = c.in-ok-bare.ensures in
+    let u = c.in_ok-bare.ensures in
     MatchResult-weaker c.repeats.result c.repeats.ensures
     (λ r q. item_read _ _ _ _ _ _ _ _ _ u q)
     (λ f s. item_repeats_stopped _ _ _ _ _ _ c.args.end f u (s c.args.end))
 
-pub next-item-returns : goal.next-item-returns
-next-item-returns t c = next_item _ _ _ _ _ _ _ _ _ c.in-ok-next.ensures c.push.ensures
+pub next_item-returns : goal.next_item-returns
+next_item-returns t c = next_item _ _ _ _ _ _ _ _ _ c.in_ok-next.ensures c.push.ensures
 
-pub next-row-returns-then-not-sign : goal.next-row-returns-then-not-sign
-next-row-returns-then-not-sign t c = next_row_many c.args.draft.now c.args.left c.args.word c.requires c.args.rest.now c.if-not-sign.ensures c.args.end _ refl refl
+pub next_row-returns-then-not-sign : goal.next_row-returns-then-not-sign
+next_row-returns-then-not-sign t c = next_row_many c.args.draft.now c.args.left c.args.word c.requires c.args.rest.now c.if-not-sign.ensures c.args.end _ refl refl
 
-pub next-row-returns-in-err-next : goal.next-row-returns-in-err-next
-next-row-returns-in-err-next t c =
+pub next_row-returns-in_err-next : goal.next_row-returns-in_err-next
+next_row-returns-in_err-next t c =
     let s = c.if-not-sign.ensures in
-    broken _ _ _ c.in-err-next.field-0.0 c.from-residual.ensures.1 (next_row_stopped c.args.draft.now c.sign.new.self c.args.left c.args.word c.requires c.args.rest.now s.0 s.1 c.args.end _ c.in-err-next.ensures)
+    broken _ _ _ c.in_err-next.field-0.0 c.from_residual.ensures.1 (next_row_stopped c.args.draft.now c.sign.new.self c.args.left c.args.word c.requires c.args.rest.now s.0 s.1 c.args.end _ c.in_err-next.ensures)
 
-pub next-row-returns : goal.next-row-returns
-next-row-returns t c =
+pub next_row-returns : goal.next_row-returns
+next_row-returns t c =
     let s = c.if-not-sign.ensures in
-    next_row c.args.draft.now c.sign.new.self c.args.left c.args.word c.requires c.args.rest.now s.0 s.1 c.args.index _ _ _ _ _ c.in-ok-next.ensures c.push.ensures
+    next_row c.args.draft.now c.sign.new.self c.args.left c.args.word c.requires c.args.rest.now s.0 s.1 c.args.index _ _ _ _ _ c.in_ok-next.ensures c.push.ensures
 
-pub row-returns-in-err-read : goal.row-returns-in-err-read
-row-returns-in-err-read t c = broken _ _ _ c.in-err-read.field-0.0 c.from-residual.ensures.1 (row_first_stopped c.args.draft.now c.args.left c.args.words.now c.args.end _ c.in-err-read.ensures)
+pub row-returns-in_err-read : goal.row-returns-in_err-read
+row-returns-in_err-read t c = broken _ _ _ c.in_err-read.field-0.0 c.from_residual.ensures.1 (row_first_stopped c.args.draft.now c.args.left c.args.words.now c.args.end _ c.in_err-read.ensures)
 
-pub row-returns-in-err-read-2 : goal.row-returns-in-err-read-2
-row-returns-in-err-read-2 t c = broken _ _ _ c.in-err-read-2.field-0.0 c.from-residual-in-err-read-2.ensures.1 (row_stopped _ _ _ _ _ _ _ _ _ _ _ c.in-ok-read.ensures c.loop-read.invariant c.loop-read-test.ensures c.in-err-read-2.ensures)
+pub row-returns-in_err-read-2 : goal.row-returns-in_err-read-2
+row-returns-in_err-read-2 t c = broken _ _ _ c.in_err-read-2.field-0.0 c.from_residual-in_err-read-2.ensures.1 (row_stopped _ _ _ _ _ _ _ _ _ _ _ c.in_ok-read.ensures c.loop-read.invariant c.loop-read-test.ensures c.in_err-read-2.ensures)
 
 pub row-loop-read-smaller : goal.row-loop-read-smaller
 row-loop-read-smaller t c =
-    let n = c.in-ok-read-2.ensures in
+    let n = c.in_ok-read-2.ensures in
     let p = shorter n.derives in
     let q = shorter n.repeating in
     omega (arith, p, q)
 
 pub row-loop-read-preserved : goal.row-loop-read-preserved
-row-loop-read-preserved t c = rowing_more _ _ _ _ _ _ _ _ _ _ c.loop-read.invariant c.loop-read-test.ensures c.in-ok-read-2.ensures
+row-loop-read-preserved t c = rowing_more _ _ _ _ _ _ _ _ _ _ c.loop-read.invariant c.loop-read-test.ensures c.in_ok-read-2.ensures
 
 pub row-returns : goal.row-returns
-row-returns t c = row_read _ _ _ _ _ _ _ _ _ c.in-ok-read.ensures c.loop-read.invariant c.loop-read-test.ensures
+row-returns t c = row_read _ _ _ _ _ _ _ _ _ c.in_ok-read.ensures c.loop-read.invariant c.loop-read-test.ensures
 
-pub unit-returns-in-default : goal.unit-returns-in-default
-unit-returns-in-default t c = unit_refused c.args.draft.now c.args.left c.args.words.now c.args.end _ (subst NoItem (sym c.in-default.ensures) tt) c.unexpected.ensures
+pub unit-returns-in_default : goal.unit-returns-in_default
+unit-returns-in_default t c = unit_refused c.args.draft.now c.args.left c.args.words.now c.args.end _ (subst NoItem (sym c.in_default.ensures) tt) c.unexpected.ensures
 
 pub unit-returns-then-left-eq0 : goal.unit-returns-then-left-eq0
 unit-returns-then-left-eq0 t c = stopped_at (Stops c.args.draft.now c.args.left (unit_item ∷ [])) c.args.end _ c.args.words.now _ c.in-Some.ensures (group_deep c.args.draft.now c.args.left c.in-Some.word c.in-OpenParen.is c.in-Some.rest.now c.if-left-eq0.true c.args.end _ refl refl)
 
-pub unit-returns-in-err-inner : goal.unit-returns-in-err-inner
-unit-returns-in-err-inner t c =
+pub unit-returns-in_err-inner-in-OpenParen : goal.unit-returns-in_err-inner-in-OpenParen
+unit-returns-in_err-inner-in-OpenParen t c =
     let l : 0 < c.args.left = omega arith in
-    broken _ _ _ c.in-err-inner.field-0.0 c.from-residual.ensures.1
-    (stopped_at (Stops c.args.draft.now c.args.left (unit_item ∷ [])) c.args.end _ c.args.words.now _ c.in-Some.ensures (group_inner_stopped c.args.draft.now c.args.left c.in-Some.word c.in-OpenParen.is c.in-Some.rest.now l c.args.end _ c.in-err-inner.ensures))
+    broken _ _ _ c.in_err-inner-in-OpenParen.field-0.0 c.from_residual.ensures.1
+    (stopped_at (Stops c.args.draft.now c.args.left (unit_item ∷ [])) c.args.end _ c.args.words.now _ c.in-Some.ensures (group_inner_stopped c.args.draft.now c.args.left c.in-Some.word c.in-OpenParen.is c.in-Some.rest.now l c.args.end _ c.in_err-inner-in-OpenParen.ensures))
 
-pub unit-returns-in-err-behind : goal.unit-returns-in-err-behind
-unit-returns-in-err-behind t c =
+pub unit-returns-in_err-behind-in-OpenParen : goal.unit-returns-in_err-behind-in-OpenParen
+unit-returns-in_err-behind-in-OpenParen t c =
     let l : 0 < c.args.left = omega arith in
-    let f = c.in-err-behind.ensures in
-    broken _ _ _ c.in-err-behind.field-0.0 c.from-residual-in-err-behind.ensures.1
-    (stopped_at (Stops c.args.draft.now c.args.left (unit_item ∷ [])) c.args.end _ c.args.words.now _ c.in-Some.ensures (group_open c.args.draft.now c.args.left c.in-Some.word c.in-OpenParen.is c.in-Some.rest.now l _ _ _ c.args.end _ c.in-ok-inner.ensures f.1 f.0))
+    let f = c.in_err-behind-in-OpenParen.ensures in
+    broken _ _ _ c.in_err-behind-in-OpenParen.field-0.0 c.from_residual-in_err-behind-in-OpenParen.ensures.1
+    (stopped_at (Stops c.args.draft.now c.args.left (unit_item ∷ [])) c.args.end _ c.args.words.now _ c.in-Some.ensures (group_open c.args.draft.now c.args.left c.in-Some.word c.in-OpenParen.is c.in-Some.rest.now l _ _ _ c.args.end _ c.in_ok-inner-in-OpenParen.ensures f.1 f.0))
 
-pub unit-returns-in-ok-behind : goal.unit-returns-in-ok-behind
-unit-returns-in-ok-behind t c =
+pub unit-returns-in_ok-behind-in-OpenParen : goal.unit-returns-in_ok-behind-in-OpenParen
+unit-returns-in_ok-behind-in-OpenParen t c =
     let l : 0 < c.args.left = omega arith in
-    unit_at _ _ c.in-Some.ensures (group_read c.args.draft.now c.args.left c.in-Some.word c.in-OpenParen.is c.in-Some.rest.now l _ _ _ _ c.in-ok-inner.ensures c.in-ok-behind.ensures)
+    unit_at _ _ c.in-Some.ensures (group_read c.args.draft.now c.args.left c.in-Some.word c.in-OpenParen.is c.in-Some.rest.now l _ _ _ _ c.in_ok-inner-in-OpenParen.ensures c.in_ok-behind-in-OpenParen.ensures)
 
-pub unit-returns-in-default-token : goal.unit-returns-in-default-token
-unit-returns-in-default-token t c = unit_refused c.args.draft.now c.args.left c.args.words.now c.args.end _ (subst NoItem (sym c.in-Some.ensures) ((c.in-default-token.not-Empty, (c.in-default-token.not-OpenParen, (c.in-default-token.not-Question, tt))), c.in-default-token.not-Number)) c.unexpected-in-default-token.ensures
+pub unit-returns-in_default-token : goal.unit-returns-in_default-token
+unit-returns-in_default-token t c = unit_refused c.args.draft.now c.args.left c.args.words.now c.args.end _ (subst NoItem (sym c.in-Some.ensures) ((c.in_default-token.not-Empty, (c.in_default-token.not-OpenParen, (c.in_default-token.not-Question, tt))), c.in_default-token.not-Number)) c.unexpected-in_default-token.ensures

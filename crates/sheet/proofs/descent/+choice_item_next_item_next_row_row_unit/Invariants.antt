@@ -8,14 +8,14 @@ decreases-unit l = 6 * l.left
 abbrev pub decreases-item : goal.decreases-item
 decreases-item l = 6 * l.left + 1
 
-abbrev pub decreases-next-item : goal.decreases-next-item
-decreases-next-item l = 6 * l.left + 2
+abbrev pub decreases-next_item : goal.decreases-next_item
+decreases-next_item l = 6 * l.left + 2
 
 abbrev pub decreases-row : goal.decreases-row
 decreases-row l = 6 * l.left + 3
 
-abbrev pub decreases-next-row : goal.decreases-next-row
-decreases-next-row l = 6 * l.left + 4
+abbrev pub decreases-next_row : goal.decreases-next_row
+decreases-next_row l = 6 * l.left + 4
 
 abbrev pub decreases-choice : goal.decreases-choice
 decreases-choice l = 6 * l.left + 5

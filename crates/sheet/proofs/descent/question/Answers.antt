@@ -3,8 +3,8 @@ use Rattle.std.proofs.lemmas.Result.{MatchResult-weaker}
 use Rattle.sheet.proofs.Items.{question_read, question_stopped, question_many}
 use Rattle.sheet.proofs.descent.question.Goals as goal
 
-pub returns-then-len-ge-MOST-ASSERTIONS : goal.returns-then-len-ge-MOST-ASSERTIONS
-returns-then-len-ge-MOST-ASSERTIONS c = question_many c.args.draft.now c.args.left c.args.word c.requires c.args.rest.now (omega arith) c.args.end _ refl refl
+pub returns-then-len-ge-MOST_ASSERTIONS : goal.returns-then-len-ge-MOST_ASSERTIONS
+returns-then-len-ge-MOST_ASSERTIONS c = question_many c.args.draft.now c.args.left c.args.word c.requires c.args.rest.now (omega arith) c.args.end _ refl refl
 
 pub returns : goal.returns
 returns c =

@@ -3,15 +3,15 @@ use Rattle.text.proofs.Parts.{broken}
 use Rattle.sheet.proofs.Items.{tested_read, tested_refused, tested_stopped}
 use Rattle.sheet.proofs.descent.tested.Goals as goal
 
-pub returns-in-err-inside : goal.returns-in-err-inside
-returns-in-err-inside c =
-    let f = c.in-err-inside.ensures in
-    broken _ _ _ c.in-err-inside.field-0.0 c.from-residual.ensures.1 (tested_refused c.args.draft.now c.args.left c.args.end c.args.words.now _ f.1 f.0)
+pub returns-in_err-inside : goal.returns-in_err-inside
+returns-in_err-inside c =
+    let f = c.in_err-inside.ensures in
+    broken _ _ _ c.in_err-inside.field-0.0 c.from_residual.ensures.1 (tested_refused c.args.draft.now c.args.left c.args.end c.args.words.now _ f.1 f.0)
 
-pub returns-in-err-test : goal.returns-in-err-test
-returns-in-err-test c =
-    let s = c.in-ok-inside.ensures in
-    broken _ _ _ c.in-err-test.field-0.0 c.from-residual-in-err-test.ensures.1 (tested_stopped c.args.draft.now c.args.left c.args.end c.args.words.now c.in-ok-inside.inside.now _ s c.in-err-test.ensures)
+pub returns-in_err-test : goal.returns-in_err-test
+returns-in_err-test c =
+    let s = c.in_ok-inside.ensures in
+    broken _ _ _ c.in_err-test.field-0.0 c.from_residual-in_err-test.ensures.1 (tested_stopped c.args.draft.now c.args.left c.args.end c.args.words.now c.in_ok-inside.inside.now _ s c.in_err-test.ensures)
 
 pub returns : goal.returns
-returns c = tested_read c.args.draft.now _ c.assert-index.new.self c.args.labels c.args.left c.args.words.now c.in-ok-inside.inside.now c.in-ok-test.test.rest.now c.assert-index.result c.in-ok-test.test.index c.in-ok-inside.ensures c.in-ok-test.ensures refl refl refl refl refl c.assert-index.ensures
+returns c = tested_read c.args.draft.now _ c.assert-index.new.self c.args.labels c.args.left c.args.words.now c.in_ok-inside.inside.now c.in_ok-test.test.rest.now c.assert-index.result c.in_ok-test.test.index c.in_ok-inside.ensures c.in_ok-test.ensures refl refl refl refl refl c.assert-index.ensures

@@ -3,18 +3,18 @@ use Rattle.text.proofs.Parts.{broken}
 use Rattle.sheet.proofs.Wholes.{whole_strict, whole_rested, whole_rest_stopped, whole_more, whole_stopped}
 use Rattle.sheet.proofs.descent.whole.Goals as goal
 
-pub returns-in-err-read : goal.returns-in-err-read
-returns-in-err-read c = broken _ _ _ c.in-err-read.field-0.0 c.from-residual.ensures.1 (whole_stopped c.args.draft.now c.args.words.now c.args.end _ c.in-err-read.ensures)
+pub returns-in_err-read : goal.returns-in_err-read
+returns-in_err-read c = broken _ _ _ c.in_err-read.field-0.0 c.from_residual.ensures.1 (whole_stopped c.args.draft.now c.args.words.now c.args.end _ c.in_err-read.ensures)
 
 pub returns-in-None : goal.returns-in-None
-returns-in-None c = whole_strict _ _ _ _ _ c.in-ok-read.ensures c.in-None.ensures
+returns-in-None c = whole_strict _ _ _ _ _ c.in_ok-read.ensures c.in-None.ensures
 
 pub returns-in-Rest : goal.returns-in-Rest
 returns-in-Rest c =
-    let r = c.in-ok-read.ensures in
+    let r = c.in_ok-read.ensures in
     MatchResult-weaker c.rested.result c.rested.ensures
     (λ u t. whole_rested _ _ _ _ _ r c.in-Some.word c.in-Some.rest.now _ c.in-Some.ensures c.in-Rest.is t)
     (λ f s. whole_rest_stopped _ _ _ _ _ r c.in-Some.word c.in-Some.rest.now c.in-Some.ensures c.args.end f s)
 
-pub returns-in-default : goal.returns-in-default
-returns-in-default c = whole_more _ _ _ _ _ c.in-ok-read.ensures c.in-Some.word c.in-Some.rest.now c.in-Some.ensures c.in-default.not-Rest c.args.end _ c.unexpected.ensures
+pub returns-in_default : goal.returns-in_default
+returns-in_default c = whole_more _ _ _ _ _ c.in_ok-read.ensures c.in-Some.word c.in-Some.rest.now c.in-Some.ensures c.in_default.not-Rest c.args.end _ c.unexpected.ensures

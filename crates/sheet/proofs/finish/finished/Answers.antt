@@ -14,26 +14,29 @@ automaton-first-requires c =
     let e = c.requires.laid.0 in
     let l = c.requires.laid.1 in
     let few : 0 + size e ≤ 64 = omega (arith, l.leaf_count, d.few) in
-    let same = c.as-slice.ensures.value in
+    let same = c.as_slice.ensures.value in
     record {
       small = omega (arith, d.few);
       placed = subst (All Placed) (sym (same ∙ l.nodes)) (laid_placed e 0 0 few);
       none = empty_list (vec_items c.args.summaries) (omega (arith, c.args.summaries.ok, c.requires.room));
       no_summaries = c.requires.room.1;
-      summary_room = omega (arith, d.fit, d.few, c.requires.room, c.as-slice.ensures.len);
+      summary_room = omega (arith, d.fit, d.few, c.requires.room, c.as_slice.ensures.len);
       no_sets = c.requires.room.3;
       set_room = omega (arith, d.few, c.requires.room);
     }
 
-pub invariant-of-result : goal.invariant-of-result
-invariant-of-result c =
+pub invariant_of-result : goal.invariant_of-result
+invariant_of-result c =
     let d = c.args.draft in
     let e = c.requires.laid.0 in
     let l = c.requires.laid.1 in
-    let same = c.as-slice.ensures.value in
+    let same = c.as_slice.ensures.value in
     let first = c.automaton-first.ensures.first ∙ ap (λ (xs : List Node). (get_or (all_summaries [] xs) (length xs - 1) nothing).first) same in
     let follow = c.automaton-first.ensures.follow ∙ ap (links [] (replicate c.len.result 0)) same in
-    ((d.few.0, c.automaton-first.ensures.count ∙ c.len.ensures), (∣ standing (vec_items d.nodes) (vec_items d.leaves) (vec_items d.tests.ariths) (vec_items d.tests.tests) e l.nodes l.stand c.automaton-first.result (vec_items c.automaton-first.new.follow) c.len.result (c.len.ensures ∙ l.leaf_count) first follow ∣₁, tt))
+    record {
+      small = (d.few.0, c.automaton-first.ensures.count ∙ c.len.ensures);
+      stands = ∣ standing (vec_items d.nodes) (vec_items d.leaves) (vec_items d.tests.ariths) (vec_items d.tests.tests) e l.nodes l.stand c.automaton-first.result (vec_items c.automaton-first.new.follow) c.len.result (c.len.ensures ∙ l.leaf_count) first follow ∣₁;
+    }
 
 pub returns : goal.returns
 returns c = λ e l. let d = c.args.draft in same_tree (vec_items d.nodes) (vec_items d.leaves) (vec_items d.tests.ariths) (vec_items d.tests.tests) e l.nodes l.stand

@@ -4,8 +4,8 @@ use Rattle.traces.proofs.Packing.{packed_small}
 use Rattle.machine.specs.Cells.{instructions}
 use Rattle.machine.proofs.program.Program.encode.Goals as goal
 
-pub overflow-add-result : goal.overflow-add-result
-overflow-add-result c =
+pub overflow_add-result : goal.overflow_add-result
+overflow_add-result c =
     let s = is_sound c.args.self.now.ranges (instructions c.args.self.now) c.args.self.now.is in
     let h = packed_small c.args.self.now.ranges s.six c.args.state.now.values c.requires in
     let e = c.pack.ensures in

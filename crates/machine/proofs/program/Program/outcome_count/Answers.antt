@@ -21,7 +21,7 @@ pub returns-then-label-statements : goal.returns-then-label-statements
 returns-then-label-statements c =
     let p = c.args.self.now in
     let e = views_length (ariths_of p.expressions) (tests_of p.expressions) (vec_items p.statements) in
-    let f = ap length c.as-slice-statements.ensures.value in
+    let f = ap length c.as_slice-statements.ensures.value in
     sym (ap length (exit_none p.ranges (instructions p) c.args.state.now (omega arith)))
 
 -- as many as the statement at the label has
@@ -37,7 +37,7 @@ counts p σ ss e h =
 pub returns-in-Sense : goal.returns-in-Sense
 returns-in-Sense c =
     let p = c.args.self.now in
-    let k = counts p c.args.state.now c.as-slice-statements.result.now c.as-slice-statements.ensures.value c.if-label-statements.false in
+    let k = counts p c.args.state.now c.as_slice-statements.result.now c.as_slice-statements.ensures.value c.if-label-statements.false in
     let s = is_sound p.ranges (instructions p) p.is in
     let six = s.six in
     let i = c.index.ensures.value in
@@ -56,5 +56,5 @@ one rs s (inr (inr k)) = ap (wide_of rs) k.3
 pub returns-in-Set : goal.returns-in-Set
 returns-in-Set c =
     let p = c.args.self.now in
-    let k = counts p c.args.state.now c.as-slice-statements.result.now c.as-slice-statements.ensures.value c.if-label-statements.false in
+    let k = counts p c.args.state.now c.as_slice-statements.result.now c.as_slice-statements.ensures.value c.if-label-statements.false in
     sym (k ∙ one p.ranges _ c.in-Set.is)

@@ -14,8 +14,8 @@ pub loop-place-preserved : goal.loop-place-preserved
 loop-place-preserved c =
     let fs = vec_items c.args.self.now.follow in
     elim c.if-has.branch [
-      | then-has w ↦ w.next_is ∙ gather_more fs c.args.set c.loop-place.place c.loop-place.next w.index.result.now (omega (arith, c.args.self.now.follow.ok)) w.index.ensures (sym w.if-has.ensures) c.loop-place.invariant
-      | else-has w ↦ w.next_is ∙ gather_same fs c.args.set c.loop-place.place c.loop-place.next (sym w.if-has.ensures) c.loop-place.invariant
+      | then-has w ↦ w.next-is ∙ gather_more fs c.args.set c.loop-place.place c.loop-place.next w.index.result.now (omega (arith, c.args.self.now.follow.ok)) w.index.ensures (sym w.if-has.ensures) c.loop-place.invariant
+      | else-has w ↦ w.next-is ∙ gather_same fs c.args.set c.loop-place.place c.loop-place.next (sym w.if-has.ensures) c.loop-place.invariant
     ]
 
 pub returns : goal.returns
