@@ -18,7 +18,7 @@ returns-in-Known g c =
 pub returns-in-New : goal.returns-in-New
 returns-in-New g c =
     let a = c.in-New.ensures in
-    let one : c.saturating-add.result ≡ c.args.stored + 1 = omega (arith, c.saturating-add.ensures, a.1.room) in
+    let one : c.saturating_add.result ≡ c.args.stored + 1 = omega (arith, c.saturating_add.ensures, a.1.room) in
     subst (λ (m : ℕ). KeptSo g.K.Key.kind c.args.table.now c.add.new.table c.args.stored c.args.key c.args.from (Some m)) (sym one)
     (record {
       kept = λ s. new (sym (found_known g.K.Key.kind _ c.args.key None (a.0 s.indexed))) (omega (arith, a.1.room)) a.1.stored;

@@ -14,8 +14,8 @@ returns-in-Ok g c =
     let begun = begin_so cell watch g.W.State.Key.kind Open c.in-Ok.check c.in-Ok.check c.args.table.now c.open.new.table c.min-places.result places c.min-places.ensures (omega arith) c.open.auto.table (c.in-Ok.check, c.in-Ok.answer) c.in-Ok.ensures in (
       begun.0,
       begun.1,
-      subst (λ (n : ℕ). Replayed cell watch g.W.State.Key.kind n (since places 0) c.args.calls.now c.go-on.new.replies (length c.args.calls.now)) begun.3 (c.go-on.ensures.pays (since places 0) begun.2),
-      c.go-on.ensures.rest,
+      subst (λ (n : ℕ). Replayed cell watch g.W.State.Key.kind n (since places 0) c.args.calls.now c.go_on.new.replies (length c.args.calls.now)) begun.3 (c.go_on.ensures.pays (since places 0) begun.2),
+      c.go_on.ensures.rest,
     )
 
 pub returns-in-Err : goal.returns-in-Err

@@ -8,11 +8,11 @@ returns-in-Open g c =
 
 pub returns-in-Work : goal.returns-in-Work
 returns-in-Work g c =
-    work_so _ _ _ _ _ _ _ _ c.min-places.result _ c.min-places.ensures (omega arith) c.work.auto.table c.in-Work.units c.in-Work.is c.work.result _ c.to-reply.ensures c.work.ensures
+    work_so _ _ _ _ _ _ _ _ c.min-places.result _ c.min-places.ensures (omega arith) c.work.auto.table c.in-Work.units c.in-Work.is c.work.result _ c.to_reply.ensures c.work.ensures
 
 pub returns-in-Restart : goal.returns-in-Restart
 returns-in-Restart g c =
-    restart_so _ _ _ _ _ _ _ _ c.min-places.result _ c.min-places.ensures (omega arith) c.restart.auto.table c.in-Restart.is c.restart.result _ c.to-reply-in-Restart.ensures c.restart.ensures
+    restart_so _ _ _ _ _ _ _ _ c.min-places.result _ c.min-places.ensures (omega arith) c.restart.auto.table c.in-Restart.is c.restart.result _ c.to_reply-in-Restart.ensures c.restart.ensures
 
 pub returns-in-Verdict : goal.returns-in-Verdict
 returns-in-Verdict g c =
@@ -20,4 +20,4 @@ returns-in-Verdict g c =
 
 pub returns-in-Shown : goal.returns-in-Shown
 returns-in-Shown g c =
-    shown_so _ _ _ _ _ _ _ _ c.min-places.result _ c.min-places.ensures (omega arith) refl c.in-Shown.place c.in-Shown.is c.shown-state.result _ c.to-code.ensures c.shown-state.ensures refl refl
+    shown_so _ _ _ _ _ _ _ _ c.min-places.result _ c.min-places.ensures (omega arith) refl c.in-Shown.place c.in-Shown.is c.shown_state.result _ c.to_code.ensures c.shown_state.ensures refl refl

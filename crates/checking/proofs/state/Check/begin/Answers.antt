@@ -14,6 +14,6 @@ pub returns : goal.returns
 returns g c =
     record {
       places = refl;
-      begun = λ p small. begun_storing _ _ _ _ _ _ c.store-starts-stored.result.1 c.store-starts-stored.auto.table p small c.first-phase-self.ensures c.in-default.ensures c.store-starts-stored.ensures;
-      beyond = c.store-starts-stored.ensures.beyond;
+      begun = λ p small. begun_storing _ _ _ _ _ _ c.store_starts-stored.result.1 c.store_starts-stored.auto.table p small c.first_phase-self.ensures c.in_default.ensures c.store_starts-stored.ensures;
+      beyond = c.store_starts-stored.ensures.beyond;
     }

@@ -5,7 +5,7 @@ use Rattle.checking.proofs.state.Check.restart.Goals as goal
 
 pub returns : goal.returns
 returns g c =
-    let fits = c.in-ok-fits.ensures in (
+    let fits = c.in_ok-fits.ensures in (
       fits,
       c.begin.ensures.beyond,
       λ small.

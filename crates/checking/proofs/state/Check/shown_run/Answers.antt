@@ -11,10 +11,10 @@ returns g c =
     let b = c.in-Failing.before in
     let p = c.in-Failing.place in
     let y = c.in-Failing.code in (
-      c.in-ok-fits.ensures,
-      subst (λ ph. Handed (shown (phase_of ph) c.args.table.now) c.args.out.now c.hand-out.new.out (b + 1)) (sym c.in-Failing.is) (
+      c.in_ok-fits.ensures,
+      subst (λ ph. Handed (shown (phase_of ph) c.args.table.now) c.args.out.now c.hand_out.new.out (b + 1)) (sym c.in-Failing.is) (
         sym (run_length es b p y),
-        run_handed es b p c.args.out.now y c.hand-out.new.out (c.hand-out.auto.out ∙ c.put.auto.out)
-            (λ j l. c.hand-out.ensures j l ∙ ap (λ old. cond (ltb j b) (get_or (trail es b p) j 0) (get_or old j 0)) c.put.ensures),
+        run_handed es b p c.args.out.now y c.hand_out.new.out (c.hand_out.auto.out ∙ c.put.auto.out)
+            (λ j l. c.hand_out.ensures j l ∙ ap (λ old. cond (ltb j b) (get_or (trail es b p) j 0) (get_or old j 0)) c.put.ensures),
       ),
     )

@@ -11,19 +11,19 @@ pub returns-then-place-count : goal.returns-then-place-count
 returns-then-place-count g c = (
   λ _. subst (λ ph. NoCode (shown (phase_of ph) c.args.table.now) c.args.place (record { layer = Check; cause = Beyond; place = c.args.place })) (sym c.in-Failing.is)
       (omega (arith, run_length (whole c.args.table.now) c.in-Failing.before c.in-Failing.end c.in-Failing.code), refl),
-  λ no. absurd (no c.in-ok-fits.ensures),
+  λ no. absurd (no c.in_ok-fits.ensures),
 )
 
 pub returns-then-place-count-2 : goal.returns-then-place-count-2
 returns-then-place-count-2 g c = (
-  c.in-ok-fits.ensures,
+  c.in_ok-fits.ensures,
   subst (λ ph. CodeAt (shown (phase_of ph) c.args.table.now) c.args.place c.in-Failing.code) (sym c.in-Failing.is)
       (run_end (whole c.args.table.now) c.in-Failing.before c.in-Failing.end c.in-Failing.code c.args.place c.if-place-count-2.true),
 )
 
 pub returns : goal.returns
 returns g c = (
-  c.in-ok-fits.ensures,
+  c.in_ok-fits.ensures,
   subst (λ ph. CodeAt (shown (phase_of ph) c.args.table.now) c.args.place c.last.result) (sym c.in-Failing.is)
       (
       run_at (whole c.args.table.now) c.in-Failing.before c.in-Failing.end c.in-Failing.code c.args.place (omega (arith, c.if-place-count.false, c.if-place-count-2.false))

@@ -9,9 +9,9 @@ returns-in-None g c =
     record {
       adds = c.loop-spent.invariant.0;
       stands = λ u s.
-          let rest : (u + c.loop-spent.-spent) + (c.args.units - c.loop-spent.-spent) ≡ u + c.args.units = omega arith in
+          let rest : (u + c.loop-spent._spent) + (c.args.units - c.loop-spent._spent) ≡ u + c.args.units = omega arith in
           subst (λ (v : ℕ). Stands (g.C.Cell.cell c.args.cell.now) (g.W.Watch.watch c.args.watch.now) g.W.State.Key.kind v c.loop-spent.self c.loop-spent.table) rest
-          (settled_more _ _ _ (c.args.units - c.loop-spent.-spent) _ _ _ (sym c.place.ensures ∙ c.in-None.is) (c.loop-spent.invariant.1 u s));
+          (settled_more _ _ _ (c.args.units - c.loop-spent._spent) _ _ _ (sym c.place.ensures ∙ c.in-None.is) (c.loop-spent.invariant.1 u s));
     }
 
 pub loop-spent-init : goal.loop-spent-init
@@ -23,7 +23,7 @@ loop-spent-init g c = (
 pub loop-spent-preserved : goal.loop-spent-preserved
 loop-spent-preserved g c = (
   adds_trans c.loop-spent.invariant.0 c.unit.ensures.adds,
-  λ u s. subst (λ (v : ℕ). Stands (g.C.Cell.cell c.args.cell.now) (g.W.Watch.watch c.args.watch.now) g.W.State.Key.kind v c.unit.new.self c.unit.new.table) (add_assoc u c.loop-spent.-spent 1) (c.unit.ensures.stands (u + c.loop-spent.-spent) (c.loop-spent.invariant.1 u s)),
+  λ u s. subst (λ (v : ℕ). Stands (g.C.Cell.cell c.args.cell.now) (g.W.Watch.watch c.args.watch.now) g.W.State.Key.kind v c.unit.new.self c.unit.new.table) (add_assoc u c.loop-spent._spent 1) (c.unit.ensures.stands (u + c.loop-spent._spent) (c.loop-spent.invariant.1 u s)),
 )
 
 pub returns : goal.returns
@@ -31,6 +31,6 @@ returns g c =
     record {
       adds = c.loop-spent.invariant.0;
       stands = λ u s.
-          let all : u + c.loop-spent.-spent ≡ u + c.args.units = omega arith in
+          let all : u + c.loop-spent._spent ≡ u + c.args.units = omega arith in
           subst (λ (v : ℕ). Stands (g.C.Cell.cell c.args.cell.now) (g.W.Watch.watch c.args.watch.now) g.W.State.Key.kind v c.loop-spent.self c.loop-spent.table) all (c.loop-spent.invariant.1 u s);
     }

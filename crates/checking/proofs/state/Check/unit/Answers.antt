@@ -5,9 +5,9 @@ use Rattle.checking.proofs.Turns.{adds_none, adds_trans, adds_same}
 use Rattle.checking.proofs.Standings.{settled_stands, next_inside, next_stored, unit_stands}
 use Rattle.checking.proofs.state.Check.unit.Goals as goal
 
-pub returns-in-default : goal.returns-in-default
-returns-in-default g c =
-    record { adds = adds_none _ _; stands = λ u s. settled_stands _ _ _ u _ _ s (sym c.place.ensures ∙ c.in-default.is) }
+pub returns-in_default : goal.returns-in_default
+returns-in_default g c =
+    record { adds = adds_none _ _; stands = λ u s. settled_stands _ _ _ u _ _ s (sym c.place.ensures ∙ c.in_default.is) }
 
 pub returns-then-place-table : goal.returns-then-place-table
 returns-then-place-table g c =
