@@ -1,5 +1,5 @@
 -- One call among many: what it answers is due by the calls before it. Assumes nothing.
-use Rattle.std.proofs.Common.{◌≡◌, ℕ, zero, suc, ◌+◌, ◌-◌, ◌<◌, ◌≤◌, Bool, true, false, cond, eqb, leb, ◌⊎◌, List, [], ◌∷◌, ◌++◌, length, take, drop, Some, None, Ok, Err, Option, Result, sym, refl, ap, ◌∙◌, subst, inl, inr, arith, length-append, length-drop, take-append-drop, length-take-le, eq-eqb, ne_eqb, le-leb}
+use Rattle.std.proofs.Common.{◌≡◌, ℕ, zero, suc, ◌+◌, ◌-◌, ◌<◌, ◌≤◌, true, false, cond, eqb, leb, ◌⊎◌, List, [], ◌∷◌, ◌++◌, length, take, drop, Some, Ok, Err, Result, sym, refl, ap, ◌∙◌, subst, inl, inr, arith, length-append, length-drop, take-append-drop, length-take-le, eq-eqb, ne_eqb, le-leb}
 use borrow.Author.Tests.{lt-leb}
 use borrow.Rule.Slice.PartMut.{post_of}
 use Rattle.std.proofs.lemmas.List.{take_at}
@@ -12,7 +12,6 @@ use Rattle.model.specs.Watches.{WatchMeaning}
 use Rattle.model.specs.declared.answer.Answer.{Answer}
 use Rattle.model.specs.declared.configuration.Configuration.{Configuration}
 use Rattle.model.specs.declared.refusal.Refusal.{Refusal}
-use Rattle.levels.specs.Law.{Law}
 use Rattle.levels.specs.Units as units
 use Rattle.levels.specs.Units.{looking, extending, passing, failing, filled, said, says, from_at, last_at, trail}
 use Rattle.levels.proofs.Places.{KeptBack, Inside, Placed, placed}
@@ -27,13 +26,12 @@ use Rattle.checking.specs.declared.calls.Reply.{Reply}
 use Rattle.checking.specs.declared.calls.Reply.TheVariants.{Told, Code, Refused}
 use Rattle.checking.specs.declared.state.Check.{Check}
 use Rattle.checking.specs.Opening.{Opens, Restarts}
-use Rattle.checking.specs.Replay.{History, since, granted, due, Due, told, code, refused, Tells, Refuses, CodeOf, ShownOf, Pays, Keeps, Responds, replied, coded, Opened}
+use Rattle.checking.specs.Replay.{History, since, due, told, code, refused, Tells, Refuses, CodeOf, ShownOf, Pays, Keeps, Responds, replied, coded, Opened}
 use Rattle.checking.specs.Showing.{whole, shown, CodeAt, NoCode, ShownAt}
 use Rattle.checking.specs.Standing as standing
 use Rattle.checking.specs.Standing.{phase_of, view, after, answer, Stands}
 use Rattle.checking.specs.Working.{Works}
-use Rattle.checking.proofs.Trails.{run_length, trail_length}
-use Rattle.checking.proofs.Turns.{at_none}
+use Rattle.checking.proofs.Trails.{run_length}
 
 -- the first p records of a table, lent on: bs is what they hold after it, and ys the whole table
 pub record Part {A : Type 0} (xs bs ys : List A) (p : ℕ) : Type 0 where

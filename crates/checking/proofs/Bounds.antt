@@ -1,10 +1,9 @@
 -- What a working check's numbers lie below, and that its configurations began in states. Assumes nothing.
-use Rattle.std.proofs.Common.{◌≡◌, ℕ, zero, suc, ◌+◌, ◌*◌, ◌<◌, ◌≤◌, Bool, true, false, cond, eqb, ltb, List, [], ◌∷◌, length, Some, None, Option, sym, refl, ap, ◌∙◌, subst, add-one, arith}
+use Rattle.std.proofs.Common.{◌≡◌, ℕ, zero, suc, ◌+◌, ◌*◌, ◌<◌, ◌≤◌, Bool, true, eqb, ltb, List, [], ◌∷◌, length, Some, None, Option, sym, subst, add-one, arith}
 use Rattle.std.proofs.lemmas.Bool.{cond_both}
 use Rattle.model.specs.Cells.{CellMeaning, In, at}
 use Rattle.model.specs.Entries.{Entry}
 use Rattle.model.specs.Keys.{KeyMeaning, configuration_key}
-use Rattle.model.specs.Runs.{Run}
 use Rattle.model.specs.Watches.{WatchMeaning}
 use Rattle.model.specs.declared.configuration.Configuration.{Configuration}
 use Rattle.levels.specs.Law.{Law}
@@ -12,8 +11,6 @@ use Rattle.levels.specs.Units.{Phase, looking, extending, passing, failing, fill
 use Rattle.levels.specs.Units as units
 use Rattle.levels.proofs.Counting.{after_one}
 use Rattle.levels.proofs.Lists.{Entries}
-use Rattle.levels.proofs.Places.{Placed, placed}
-use Rattle.levels.proofs.Reaching.{Shortly}
 use Rattle.levels.proofs.Standings.{Good}
 use Rattle.levels.proofs.Storing.{in_keys}
 use Rattle.levels.proofs.Theorem.{law, stands}

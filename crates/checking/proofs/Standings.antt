@@ -1,5 +1,5 @@
 -- How a check that stands as after u units comes to stand as after more of them. Assumes nothing.
-use Rattle.std.proofs.Common.{◌≡◌, ℕ, zero, suc, ◌+◌, ◌*◌, ◌<◌, ◌≤◌, Bool, true, false, cond, List, [], ◌∷◌, length, Some, None, Option, sym, refl, ap, ◌∙◌, subst, add-zero, add-one, arith}
+use Rattle.std.proofs.Common.{◌≡◌, ℕ, zero, suc, ◌+◌, ◌<◌, ◌≤◌, Bool, List, [], length, Some, None, sym, refl, ap, ◌∙◌, subst, add-zero, add-one, arith}
 use Rattle.model.specs.Cells.{CellMeaning, at}
 use Rattle.model.specs.Entries.{Entry}
 use Rattle.model.specs.Keys.{KeyMeaning, configuration_key}
@@ -15,7 +15,7 @@ use Rattle.checking.specs.declared.phase.Phase.{Phase}
 use Rattle.checking.specs.declared.phase.Phase.TheVariants.{Looking, Extending, Passing, Failing, Filled}
 use Rattle.checking.specs.declared.state.Check.{Check}
 use Rattle.checking.specs.Keeping.{Sound}
-use Rattle.checking.specs.Standing.{phase_of, place_of, view, after, Stands, Adds, Goes, Countable, advanced, rest, resting}
+use Rattle.checking.specs.Standing.{phase_of, place_of, view, after, Stands, Adds, Goes, Countable, advanced, rest}
 use Rattle.checking.proofs.Bounds.{Facts, Ready, ready}
 
 -- a working check's numbers can be counted one further

@@ -1,5 +1,5 @@
 -- The starts, one after another: looked at, and stored. Assumes nothing.
-use Rattle.std.proofs.Common.{◌≡◌, ℕ, zero, suc, ◌+◌, ◌<◌, ◌≤◌, Bool, true, false, cond, eqb, List, [], ◌∷◌, length, drop, Some, None, Option, sym, refl, ap, ◌∙◌, subst, arith, drop_of_length-le}
+use Rattle.std.proofs.Common.{◌≡◌, ℕ, ◌+◌, ◌≤◌, Bool, true, false, cond, eqb, List, [], ◌∷◌, length, drop, Some, None, Option, sym, refl, ap, ◌∙◌, subst, arith, drop_of_length-le}
 use Rattle.model.specs.Cells.{CellMeaning, at}
 use Rattle.model.specs.Keys.{KeyMeaning, configuration_key}
 use Rattle.model.specs.Runs.{moment}
@@ -13,8 +13,7 @@ use Rattle.store.proofs.Laws.{entries_length, none_indexed}
 use Rattle.store.proofs.Walks.{place_in}
 use Rattle.store.specs.Chains.{Indexed}
 use Rattle.checking.specs.declared.state.Check.{Check}
-use Rattle.checking.specs.Keeping as keeping
-use Rattle.checking.specs.Keeping.{Sound, KeptSo, now_stored}
+use Rattle.checking.specs.Keeping.{KeptSo, now_stored}
 use Rattle.checking.specs.Opening.{none, StartSo, Storing, StartsSo}
 use Rattle.checking.specs.Standing.{phase_of, told, answer, after, Stands}
 use Rattle.checking.proofs.Turns.{beyond_more, drop_at, no_step, a_step, kept_put}

@@ -1,11 +1,11 @@
 -- Going back along the places that records were reached from. Assumes nothing.
-use Rattle.std.proofs.Common.{◌≡◌, ℕ, zero, suc, ◌+◌, ◌-◌, ◌<◌, ◌≤◌, cond, ltb, ◌≢◌, ◌⊎◌, List, [], ◌∷◌, ◌++◌, length, get_or, set, Some, None, Option, sym, refl, ap, ◌∙◌, subst, inl, inr, arith, length-append, length-set, get_or-set_other, get_or-set_same, le-ltb, lt-ltb}
+use Rattle.std.proofs.Common.{◌≡◌, ℕ, zero, suc, ◌+◌, ◌-◌, ◌<◌, ◌≤◌, cond, ltb, ◌≢◌, ◌⊎◌, List, [], ◌∷◌, ◌++◌, length, get_or, set, Some, sym, refl, ap, ◌∙◌, subst, inl, inr, arith, length-append, length-set, get_or-set_other, get_or-set_same, le-ltb, lt-ltb}
 use Rattle.model.specs.Cells.{at}
 use Rattle.model.specs.Entries.{Entry}
 use Rattle.model.specs.declared.configuration.Configuration.{Configuration}
 use Rattle.levels.specs.Units.{from_at, last_at, trail}
 use Rattle.levels.proofs.Reaching.{from_at_is, last_at_is}
-use Rattle.store.specs.Entries.{entries, entry}
+use Rattle.store.specs.Entries.{entry}
 use Rattle.store.specs.declared.record.Record.{Record}
 use Rattle.store.proofs.Laws.{entries_length, entry_read}
 use Rattle.checking.specs.Showing.{whole, back_at}

@@ -3,7 +3,7 @@ use Rattle.std.specs.Prelude.{◌≡◌, ℕ, ◌+◌, ◌%◌, ◌<◌, ◌≤�
 use Rattle.std.proofs.Common.{sym, ap, ◌∙◌, arith}
 use Rattle.std.specs.Int.Signed.{le_z_yes}
 use Rattle.std.proofs.lemmas.Bool.{true≢false, both_ways, lt-ltb, ltb-true}
-use Rattle.model.specs.Cells.{CellMeaning, at}
+use Rattle.model.specs.Cells.{CellMeaning}
 use Rattle.model.specs.Watches.{WatchMeaning}
 use Rattle.model.specs.declared.moment.Moment.{Moment}
 

@@ -7,7 +7,7 @@ use Rattle.model.specs.Watches.{WatchMeaning}
 use Rattle.model.specs.declared.answer.Answer.{Answer}
 use Rattle.model.specs.declared.configuration.Configuration.{Configuration}
 use Rattle.model.specs.declared.refusal.Refusal.{Refusal}
-use Rattle.levels.specs.Units.{Kept, onward, put_new, put_starts}
+use Rattle.levels.specs.Units.{onward, put_new, put_starts}
 use Rattle.store.specs.Entries.{entries}
 use Rattle.store.specs.declared.record.Record.{Record}
 use Rattle.checking.specs.declared.state.Check.{Check}

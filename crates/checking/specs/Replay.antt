@@ -1,5 +1,5 @@
 -- The law of a check over any list of calls, those that are turned away among them. Assumes nothing.
-use Rattle.std.specs.Prelude.{◌≡◌, ℕ, ◌+◌, ◌<◌, ◌≤◌, min, cond, List, [], ◌∷◌, length, take, drop, Some, None, Ok, Err, Option, Result, ◌==◌, nat_le}
+use Rattle.std.specs.Prelude.{◌≡◌, ℕ, ◌+◌, ◌<◌, ◌≤◌, min, cond, List, [], ◌∷◌, length, take, drop, Some, Ok, Err, Result, ◌==◌, nat_le}
 use Rattle.model.specs.Cells.{CellMeaning, at}
 use Rattle.model.specs.Keys.{KeyMeaning}
 use Rattle.model.specs.Refusals.{reply}

@@ -1,5 +1,5 @@
 -- What a check and its table stand for: the definition of a check after so many units of work. Assumes nothing.
-use Rattle.std.specs.Prelude.{◌≡◌, ℕ, ◌+◌, ◌<◌, ◌≤◌, true, cond, List, [], ◌∷◌, length, drop, Some, None, Option, ◌==◌, nat_lt}
+use Rattle.std.specs.Prelude.{◌≡◌, ℕ, ◌+◌, ◌<◌, ◌≤◌, true, cond, List, length, drop, Some, None, Option, ◌==◌, nat_lt}
 use Rattle.model.specs.Cells.{CellMeaning}
 use Rattle.model.specs.Entries.{Entry}
 use Rattle.model.specs.Keys.{KeyMeaning, configuration_key}

@@ -1,28 +1,26 @@
 -- Conditions by the table and by their derivations are the same texts, and the answers on them mean what they say. Assumes nothing.
-use Rattle.std.proofs.Common.{◌≡◌, ℕ, ◌<◌, ◌≤◌, true, false, ◌⊎◌, List, [], ◌∷◌, ◌++◌, length, vec_items, sym, refl, ap, ◌∙◌, subst, inl, inr}
+use Rattle.std.proofs.Common.{◌≡◌, ℕ, ◌≤◌, true, false, List, [], ◌∷◌, length, sym, refl, ap, ◌∙◌, subst, inr}
 use borrow.Author.Tests.{clash}
-use Rattle.grammar.specs.Grammars.{Reads, Text, find, takes, Quiet}
-use Rattle.grammar.specs.Answers.{good, fault, Deserved, SameTexts}
+use Rattle.grammar.specs.Grammars.{find, takes, Quiet}
+use Rattle.grammar.specs.Answers.{fault, Deserved, SameTexts}
 use Rattle.grammar.proofs.Trees.{Means}
 use Rattle.grammar.proofs.Steps.{reading_good, reading_stuck}
 use Rattle.grammar.proofs.Meaning.{reading_stands}
-use Rattle.model.specs.declared.refusal.Cause.{Cause}
 use Rattle.lexing.specs.Lexing.{words}
 use Rattle.text.specs.declared.expressions.Expressions.{Expressions}
 use Rattle.text.specs.declared.reading.Fault.{Fault}
 use Rattle.text.specs.declared.word.Word.{Word}
 use Rattle.text.specs.declared.word.Scope.TheVariants.{Every}
-use Rattle.text.specs.Expressions.{Test}
-use Rattle.text.specs.Derivations.{Condition, condition, Tests, one_of, onto_test}
+use Rattle.text.specs.Derivations.{Condition, condition, Tests, onto_test}
 use Rattle.text.specs.Table.{Role, Item, operand, more, one_test, joined, comparison, close_paren, close_bracket, bracketed, semicolon, becomes, sensed, guard, statement, other, end_if, end_while, block, statements, declarations, declared_letter, bound, bare_bound, close_declaration, unit, repeats, more_labels, label, label_set, colon, group, expression, target, edges, rules_of, optional, table}
-use Rattle.text.specs.Charges.{Memo, causes, counting, open_memo}
-use Rattle.text.specs.Reading.{reads, Here, Goes, Stops, place_of, cause_of, FaultAt}
+use Rattle.text.specs.Charges.{causes, counting, open_memo}
+use Rattle.text.specs.Reading.{reads, Here, Goes, cause_of, FaultAt}
 use Rattle.text.specs.Outcomes.{TestRead, Stopped}
 use Rattle.text.proofs.Closed.{closable}
 use Rattle.text.proofs.Derived.{condition_reads}
 use Rattle.text.proofs.Shared.{Mean, shared, stands_for}
 use Rattle.text.proofs.Unique.{condition_one}
-use Rattle.conditions.specs.Meaning.{IsCondition, condition_start, GoodCondition, LongText, FaultyText, BadCondition}
+use Rattle.conditions.specs.Meaning.{IsCondition, condition_start, GoodCondition, BadCondition}
 
 abbrev nothing_said : Item → List Word → List Word → Type 0
 nothing_said i ws rest = Unit {0}

@@ -1,12 +1,10 @@
 -- Where every item can be closed, whatever is owed can be paid off. Assumes nothing.
 use mathlib.Core.Path.{◌≡◌, refl, sym, ap, subst, ◌∙◌}
-use mathlib.Core.Bool.{Bool, true, false, cond, ◌&&◌}
+use mathlib.Core.Bool.{Bool, true, false, cond}
 use mathlib.Core.Logic.{◌⊎◌, inl, inr}
 use mathlib.Core.List.{List, [], ◌∷◌, ◌++◌, append-nil}
-use Prim.Native.Nat.{ℕ}
-use native.Mathlib.Omega.{arith}
 use borrow.Author.Tests.{clash}
-use Rattle.grammar.specs.Grammars.{Rule, Grammar, Step, stuck, takes, find, Quiet, Reads, nothing, took, without, Text, Begins}
+use Rattle.grammar.specs.Grammars.{Rule, Grammar, Step, stuck, takes, find, Quiet, Reads, nothing, without, Text}
 use Rattle.grammar.specs.Answers.{next, feed, In, Drains, inner, lawful, all_owe, Shut, Closable}
 use Rattle.grammar.proofs.Steps.{clash_step, unfed}
 

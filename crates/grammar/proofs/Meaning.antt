@@ -1,13 +1,13 @@
 -- Reading gives the answer that the words deserve, and no other is deserved. Assumes nothing.
 use mathlib.Core.Path.{◌≡◌, refl, sym, ap, subst, ◌∙◌}
-use mathlib.Core.Bool.{Bool, true, false, cond, ◌&&◌}
+use mathlib.Core.Bool.{true, false}
 use mathlib.Core.Logic.{◌⊎◌, inl, inr}
-use mathlib.Core.List.{List, [], ◌∷◌, ◌++◌, append-nil}
+use mathlib.Core.List.{List, [], ◌∷◌, ◌++◌}
 use Prim.Native.Nat.{ℕ}
 use native.Mathlib.Omega.{arith}
 use borrow.Author.Tests.{clash}
-use Rattle.grammar.specs.Grammars.{Rule, Grammar, Step, stuck, takes, find, Quiet, Reads, nothing, took, without, Text, Begins}
-use Rattle.grammar.specs.Answers.{next, feed, leaves, Charge, fine, charged, Causes, Answer, good, fault, charging, stepping, reading, Begun, Passes, Faulted, Deserved, Faulty, Deserves, SameTexts, ReadingStandsByTable, In, Drains, inner, lawful, all_owe, Shut, Closable, ReadingStands}
+use Rattle.grammar.specs.Grammars.{Grammar, Step, stuck, takes, Text, Begins}
+use Rattle.grammar.specs.Answers.{feed, leaves, Charge, fine, charged, Causes, Answer, good, fault, reading, Passes, Faulted, Deserved, Faulty, Deserves, ReadingStandsByTable, lawful, Closable, ReadingStands}
 use Rattle.grammar.proofs.Steps.{clash_step, unfed, fed, left_out, may_leave, reading_takes, reading_charged, reading_stuck, reading_ended, reading_good}
 use Rattle.grammar.proofs.Closing.{bool_cases, kept, payable}
 

@@ -1,13 +1,12 @@
 -- One word of reading at a time. Assumes nothing.
 use mathlib.Core.Path.{◌≡◌, refl, sym, ap, subst, ◌∙◌}
 use mathlib.Core.Bool.{Bool, true, false, cond, ◌&&◌}
-use mathlib.Core.Logic.{◌⊎◌, inl, inr}
 use mathlib.Core.List.{List, [], ◌∷◌, ◌++◌}
 use Prim.Native.Nat.{ℕ}
 use native.Mathlib.Omega.{arith}
 use borrow.Author.Tests.{clash}
-use Rattle.grammar.specs.Grammars.{Rule, Grammar, Step, stuck, takes, find, Quiet, Reads, nothing, took, without, Text, Begins}
-use Rattle.grammar.specs.Answers.{next, feed, leaves, Charge, fine, charged, Causes, Answer, good, fault, charging, stepping, reading, Passes, Faulty, Deserves, In, Drains, inner, lawful, all_owe, Shut, Closable, ReadingStands}
+use Rattle.grammar.specs.Grammars.{Grammar, Step, stuck, takes, find, Quiet, Reads, nothing, took, without}
+use Rattle.grammar.specs.Answers.{next, feed, leaves, fine, charged, Causes, good, fault, charging, stepping, reading}
 
 pub clash_step : {I R : Type 0} {r : R} {k : List I} → stuck ≡ takes r k → ⊥
 clash_step e = let z : ◌≡◌ {A = ℕ} 0 1 = cc in omega arith

@@ -1,9 +1,9 @@
 -- From what the table reads to what its items stand for. Assumes nothing.
-use mathlib.Core.Path.{◌≡◌, refl, sym, ap, subst, ◌∙◌}
+use mathlib.Core.Path.{◌≡◌, refl, sym, ap}
 use mathlib.Core.Bool.{Bool, true, false, cond}
 use mathlib.Core.Logic.{◌⊎◌, inl, inr}
-use mathlib.Core.List.{List, [], ◌∷◌, ◌++◌}
-use Rattle.grammar.specs.Grammars.{Rule, Grammar, Step, stuck, takes, find, Quiet, Reads, nothing, took, without}
+use mathlib.Core.List.{List, [], ◌∷◌}
+use Rattle.grammar.specs.Grammars.{Rule, Grammar, stuck, takes, find, Quiet, Reads, nothing, took, without}
 use Rattle.grammar.proofs.Steps.{clash_step}
 
 -- the items stand for the words ws in turn, and rest is what is left

@@ -1,6 +1,6 @@
 -- Reading word by word, and what its answers mean. Assumes nothing.
 use Rattle.std.specs.Prelude.{◌≡◌, Bool, true, false, cond, ◌&&◌, ◌⊎◌, List, [], ◌∷◌, ◌++◌}
-use Rattle.grammar.specs.Grammars.{Rule, Grammar, Step, stuck, takes, find, Quiet, Reads, Text, Begins}
+use Rattle.grammar.specs.Grammars.{Rule, Grammar, Step, stuck, takes, find, Text}
 
 abbrev pub next : {I R : Type 0} → Step I R → Bool → List I → Step I R → Step I R
 next (takes r js) may k below = takes r (js ++ k)

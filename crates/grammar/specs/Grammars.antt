@@ -1,5 +1,5 @@
 -- Grammars as tables of what is owed, and the texts that they have. Assumes nothing.
-use Rattle.std.specs.Prelude.{◌≡◌, Bool, true, false, cond, ◌&&◌, List, [], ◌∷◌, ◌++◌}
+use Rattle.std.specs.Prelude.{◌≡◌, Bool, true, cond, List, [], ◌∷◌, ◌++◌}
 
 -- one line of a table: a word that fits plays this role, and these items are owed in its stead
 pub record Rule (I W R : Type 0) : Type 0 where

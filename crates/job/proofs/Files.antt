@@ -1,5 +1,5 @@
 -- What a file with a good trailer holds. Assumes nothing.
-use Rattle.std.proofs.Common.{◌≡◌, ℕ, ◌+◌, ◌-◌, ◌<◌, ◌≤◌, Bool, true, false, cond, ◌||◌, ltb, List, length, take, drop, Some, None, Option, sym, refl, ap, ◌∙◌, arith, length-drop, length-take-le, le-ltb, lt-ltb}
+use Rattle.std.proofs.Common.{◌≡◌, ℕ, ◌+◌, ◌-◌, ◌<◌, ◌≤◌, Bool, true, false, cond, ◌||◌, ltb, List, length, take, drop, Some, None, sym, ap, ◌∙◌, arith, length-drop, length-take-le, le-ltb, lt-ltb}
 use Rattle.std.proofs.lemmas.List.{take-take, drop-take}
 use Rattle.job.specs.Jobs.{distance, program_part, sheet_part, missized, mistrailed, fault}
 

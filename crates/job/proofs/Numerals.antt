@@ -1,9 +1,9 @@
 -- How long a written number is. Assumes nothing.
-use Rattle.std.proofs.Common.{◌≡◌, ℕ, suc, ◌+◌, ◌/◌, ◌%◌, ◌^◌, ◌<◌, ◌≤◌, true, false, List, [], ◌∷◌, ◌++◌, length, ℤ, pos, negsuc, nat_abs, decimal, refl, ap, ◌∙◌, arith, lit<, length-append, w16, SFits, leb-false}
+use Rattle.std.proofs.Common.{◌≡◌, ℕ, ◌+◌, ◌/◌, ◌%◌, ◌^◌, ◌<◌, ◌≤◌, true, false, [], ◌∷◌, length, ℤ, pos, negsuc, nat_abs, decimal, refl, ap, ◌∙◌, arith, lit<, length-append, w16, SFits, leb-false}
 use lib.Signed.{le_z}
 use borrow.Author.Tests.{clash}
 use Rattle.std.specs.Fmt.{signed_decimal}
-use Rattle.std.proofs.lemmas.Fmt.{decimal_step, decimal_digit, length-decimal-le}
+use Rattle.std.proofs.lemmas.Fmt.{decimal_step, length-decimal-le}
 
 -- a number of 64 bits has at most 20 digits
 pub at_most_20 : (n : ℕ) → n < 2 ^ 64 → length (decimal n) ≤ 20

@@ -1,5 +1,5 @@
 -- Pieces written one after another into a buffer. Assumes nothing.
-use Rattle.std.proofs.Common.{◌≡◌, ℕ, zero, suc, ◌+◌, ◌<◌, ◌≤◌, List, [], ◌∷◌, ◌++◌, length, take, drop, set, ℤ, Ok, sym, refl, ap, ◌∙◌, subst, append_assoc, append-nil, add-zero, zero-add, add-one, arith, length-append, length-drop, length-set, take-append-drop, length-take-le, drop-cons}
+use Rattle.std.proofs.Common.{◌≡◌, ℕ, suc, ◌+◌, ◌<◌, ◌≤◌, List, [], ◌∷◌, ◌++◌, length, take, drop, set, ℤ, Ok, sym, refl, ap, ◌∙◌, subst, append_assoc, append-nil, add-zero, zero-add, add-one, arith, length-append, length-drop, take-append-drop, length-take-le, drop-cons}
 use lib.Seq.{drop-append-add}
 use Rattle.std.proofs.lemmas.List.{set_at, take_at, drop-drop}
 use Rattle.job.specs.Lines.{Put, Wrote, listed}

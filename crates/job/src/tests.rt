@@ -106,14 +106,14 @@ fn lines(rt: HostRuntime) {
         place: 4_095,
     };
     assert_eq!(rt; shown(&refused_line(&mut out, &refusal)), 18);
-    assert!(rt; &out[0..19] == b"refused 3 12 4095\n.");
+    assert!(rt; &out[0..19] == b"refused 3 12 4095\n.".as_slice());
     let answer = Answer {
         verdict: Verdict::Full,
         count: 0,
         stored: 1_000_000,
     };
     assert_eq!(rt; shown(&verdict_line(&mut out, &answer)), 15);
-    assert!(rt; &out[0..19] == b"full 0 1000000\n95\n.");
+    assert!(rt; &out[0..19] == b"full 0 1000000\n95\n.".as_slice());
 }
 
 #[test]
@@ -124,7 +124,7 @@ fn states(rt: HostRuntime) {
         values: [0, -1, 1000, -1000, 7, -32768],
     };
     assert_eq!(rt; shown(&state_line(&mut out, &state)), 28);
-    assert!(rt; &out[0..29] == b"63 0 -1 1000 -1000 7 -32768\n.");
+    assert!(rt; &out[0..29] == b"63 0 -1 1000 -1000 7 -32768\n.".as_slice());
 }
 
 #[test]

@@ -1,5 +1,5 @@
 -- Labels as bits, and reading them by the table. Assumes nothing.
-use Rattle.std.proofs.Common.{◌≡◌, ℕ, zero, suc, ◌+◌, ◌-◌, ◌*◌, ◌/◌, ◌%◌, ◌^◌, ◌<◌, ◌≤◌, Bool, true, false, cond, ◌&&◌, eqb, ◌⊎◌, List, [], ◌∷◌, ◌++◌, sym, refl, ap, ◌∙◌, subst, inl, inr, arith, lit<, lit≤, le-ltb, lt-ltb, eq-eqb, ne_eqb}
+use Rattle.std.proofs.Common.{◌≡◌, ℕ, zero, suc, ◌+◌, ◌-◌, ◌*◌, ◌/◌, ◌%◌, ◌^◌, ◌<◌, ◌≤◌, Bool, true, false, cond, ◌&&◌, eqb, ◌⊎◌, List, [], ◌∷◌, ◌++◌, sym, refl, ap, ◌∙◌, subst, inl, inr, arith, lit≤, le-ltb, lt-ltb, eq-eqb, ne_eqb}
 use lib.Bits.{bit_or}
 use Rattle.std.proofs.lemmas.Nat.{or_shr, or_mod, shl-shr, pow-add, pow_pos, one_shl, and_mask}
 use Rattle.std.proofs.lemmas.Bool.{cases_order, and_parts}
@@ -7,21 +7,18 @@ use lib.Bits.{bit_and}
 use lib.Pow.{pow-lt}
 use native.Mathlib.Nat.{div-eq_of_lt}
 use Rattle.grammar.specs.Grammars.{stuck, takes, find, Quiet}
-use Rattle.grammar.specs.Answers.{fine, charged, fault}
-use Rattle.grammar.proofs.Trees.{find_later}
-use Rattle.model.specs.declared.refusal.Cause.{Cause}
+use Rattle.grammar.specs.Answers.{fault}
 use Rattle.model.specs.declared.refusal.Cause.TheVariants.{Number as Numbered}
 use Rattle.text.specs.declared.reading.Fault.{Fault}
-use Rattle.text.specs.declared.word.Token.{Token}
 use Rattle.text.specs.declared.word.Token.TheVariants.{Number, Comma as CommaToken, Question}
 use Rattle.text.specs.declared.word.Word.{Word}
-use Rattle.text.specs.Words.{amount, a_number, at, kind}
-use Rattle.text.specs.Table.{Item, label, more_labels, label_set, labels, plain, rules_of, optional, line}
+use Rattle.text.specs.Words.{amount, a_number}
+use Rattle.text.specs.Table.{Item, label, more_labels, label_set, labels, plain, rules_of, line}
 use Rattle.text.specs.Charges.{Memo, open_in, when, deep}
 use Rattle.text.specs.Derivations.{Free}
-use Rattle.text.specs.Reading.{reads, place_of, cause_of, FaultAt}
-use Rattle.text.specs.LabelSets.{LabelSet, every, these, listed, has_label, MoreLabels, no_comma, comma, Labels, question, numbers}
-use Rattle.labels.specs.LabelBits.{bit, Over, LabelStops, LabelAt, Comma, MoreRead, SetRead}
+use Rattle.text.specs.Reading.{reads, FaultAt}
+use Rattle.text.specs.LabelSets.{every, these, listed, MoreLabels, no_comma, comma, Labels, question, numbers}
+use Rattle.labels.specs.LabelBits.{bit, LabelStops, LabelAt, Comma, MoreRead, SetRead}
 use Rattle.text.proofs.Tests.{no_number, other_kind}
 use Rattle.text.proofs.Derived.{quiet_labels}
 use Rattle.text.proofs.Going.{takes_word, charges_word, refuses, leaves_out, not_deep}

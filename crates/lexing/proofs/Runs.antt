@@ -1,11 +1,11 @@
 -- Runs of bytes that pass a test, and the words of what is left of a text. Assumes nothing.
-use Rattle.std.proofs.Common.{◌≡◌, ℕ, zero, suc, ◌+◌, ◌-◌, ◌*◌, ◌<◌, ◌≤◌, min, Bool, true, false, cond, ◌||◌, eqb, ◌⊎◌, List, [], ◌∷◌, ◌++◌, length, get_or, take, drop, Decides, sym, refl, ap, ◌∙◌, subst, inl, inr, append_assoc, append-nil, arith, take_all, drop-cons, drop-drop}
+use Rattle.std.proofs.Common.{◌≡◌, ℕ, zero, suc, ◌+◌, ◌-◌, ◌*◌, ◌<◌, ◌≤◌, min, Bool, true, false, cond, ◌||◌, eqb, List, [], ◌∷◌, ◌++◌, length, get_or, take, drop, Decides, sym, refl, ap, ◌∙◌, subst, append_assoc, append-nil, arith, take_all, drop-cons, drop-drop}
 use Rattle.std.specs.Str.{bytes_eq}
 use Rattle.std.proofs.lemmas.Slice.Eq.{bytes_eq-Decides}
 use Rattle.text.specs.declared.word.Token.{Token}
 use Rattle.text.specs.declared.word.Token.TheVariants.{Number}
 use Rattle.text.specs.declared.word.Word.{Word}
-use Rattle.lexing.specs.Lexing.{run, decimal, is_letter, is_digit, separates, letters_token, mark_token, mark_size, equals_next, token_at, size_at, words_from}
+use Rattle.lexing.specs.Lexing.{run, decimal, is_letter, is_digit, separates, letters_token, mark_token, mark_size, token_at, size_at, words_from}
 
 pub same_answer : (a b : Bool) (P : Type 0) → Decides a P → Decides b P → a ≡ b
 same_answer true b P d e = sym (e.1 (d.0 refl))

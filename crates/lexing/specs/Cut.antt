@@ -1,5 +1,5 @@
 -- What cutting a text leaves in the room for its words. Assumes nothing.
-use Rattle.std.specs.Prelude.{◌≡◌, ℕ, ◌<◌, ◌≤◌, Bool, true, false, List, [], ◌∷◌, ◌++◌, length, drop, vec_items, vec_len}
+use Rattle.std.specs.Prelude.{◌≡◌, ℕ, ◌<◌, ◌≤◌, Bool, true, false, List, ◌++◌, length, drop, vec_items, vec_len}
 use Rattle.lexing.specs.declared.words.Words.{Words}
 use Rattle.lexing.specs.Lexing.{words, words_from}
 

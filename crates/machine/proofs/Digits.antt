@@ -1,15 +1,15 @@
 -- What one turn over the registers keeps. Assumes nothing.
-use Rattle.std.proofs.Common.{◌≡◌, ℕ, zero, suc, ◌+◌, ◌-◌, ◌*◌, ◌/◌, ◌%◌, ◌^◌, ◌<◌, ◌≤◌, Bool, true, false, cond, ◌&&◌, eqb, leb, ◌⊎◌, List, [], ◌∷◌, ◌++◌, length, get_or, take, drop, set, ℤ, pos, ◌+ℤ◌, ◌≤ℤ◌, Some, None, Option, sym, refl, ap, ◌∙◌, subst, inl, inr, append_assoc, append-nil, mod-lt, mul_assoc, mul_comm, div-lt_iff_lt-mul, add-mul, mul-le-mul, mul-le-mul_left, one-mul, pow-suc, mul-one, mul-add, arith, length-drop, length-set, w16, to_z, of_z}
+use Rattle.std.proofs.Common.{◌≡◌, ℕ, zero, suc, ◌+◌, ◌-◌, ◌*◌, ◌/◌, ◌%◌, ◌^◌, ◌<◌, ◌≤◌, Bool, true, false, ◌&&◌, List, [], ◌∷◌, ◌++◌, length, get_or, take, drop, set, ℤ, pos, ◌+ℤ◌, ◌≤ℤ◌, Some, None, sym, refl, ap, ◌∙◌, subst, append_assoc, append-nil, mod-lt, mul_assoc, mul_comm, div-lt_iff_lt-mul, add-mul, mul-le-mul_left, one-mul, pow-suc, mul-one, mul-add, arith, length-drop, w16, to_z, of_z}
 use native.Mathlib.Nat.{div-add-mod}
 use Rattle.std.proofs.lemmas.List.{drop_more, drop_all, take_all, take_more_set}
-use Rattle.std.proofs.lemmas.Bool.{and_right, and_left, lt-leb, le-leb, cond-true, cond-false, ne_eqb, eq-eqb}
+use Rattle.std.proofs.lemmas.Bool.{and_left, lt-leb, le-leb, cond-true, cond-false, ne_eqb, eq-eqb}
 use Rattle.std.proofs.lemmas.Int.{ints}
 use Rattle.model.specs.Cells.{at}
 use Rattle.traces.specs.declared.range.Range.{Range}
 use Rattle.traces.specs.Tables.{above}
-use Rattle.traces.specs.Codes.{packed, unpacked, in_range, settings, start_codes, below}
-use Rattle.traces.proofs.Spans.{range_ordered, above_is, wide}
-use Rattle.traces.proofs.Packing.{Fits, above_le, narrow, packed_below}
+use Rattle.traces.specs.Codes.{packed, unpacked, in_range, settings, start_codes}
+use Rattle.traces.proofs.Spans.{range_ordered, wide}
+use Rattle.traces.proofs.Packing.{Fits, packed_below}
 use Rattle.traces.proofs.Begins.{below_at, digits_room}
 use Rattle.machine.specs.Cells.{values_in}
 

@@ -1,13 +1,13 @@
 -- The runs of a program's cell are its prefix traces. Assumes nothing.
-use Rattle.std.proofs.Common.{◌≡◌, ℕ, ◌+◌, ◌*◌, ◌^◌, ◌≤◌, Bool, true, List, [], ◌∷◌, map, length, sym, refl, ap, ◌∙◌, subst, arith}
+use Rattle.std.proofs.Common.{◌≡◌, ℕ, true, List, [], ◌∷◌, sym, refl, subst, arith}
 use Rattle.model.specs.Cells.{In}
 use Rattle.model.specs.Runs.{Run, Path as CodePath}
 use Rattle.traces.specs.declared.range.Range.{Range}
 use Rattle.traces.specs.Programs.{Tree, ranges}
-use Rattle.traces.specs.Traces.{State, ◌▹◌, Prefix, Setting}
+use Rattle.traces.specs.Traces.{State, ◌▹◌, Prefix}
 use Rattle.traces.specs.Tables.{Instruction, table_of}
-use Rattle.traces.specs.Codes.{code, codes, packed, start_codes, state_of, sound}
-use Rattle.traces.proofs.Packing.{Fits, setting_fits}
+use Rattle.traces.specs.Codes.{code, codes, packed, start_codes, sound}
+use Rattle.traces.proofs.Packing.{setting_fits}
 use Rattle.traces.proofs.Begins.{start_has, start_only}
 use Rattle.traces.proofs.Laws.{is_sound, CodesPath, states_path, states_told, path_states, trace_path, path_trace}
 use Rattle.machine.specs.Meanings.{meaning, Coded, RunsAreTraces, TellsStates}

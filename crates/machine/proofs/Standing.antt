@@ -1,14 +1,12 @@
 -- Trees among nodes: the tree that stands at a place is the one that is read there. Assumes nothing.
-use Rattle.std.proofs.Common.{◌≡◌, ℕ, zero, suc, ◌+◌, ◌<◌, ◌≤◌, Bool, true, false, ◌&&◌, ltb, leb, ◌⊎◌, List, [], ◌∷◌, Some, None, Option, sym, refl, ap, ◌∙◌, subst, inl, inr, arith}
+use Rattle.std.proofs.Common.{◌≡◌, ℕ, zero, suc, ◌+◌, ◌<◌, true, ◌&&◌, ltb, leb, List, Some, None, Option, refl, ap, ◌∙◌, arith}
 use Rattle.std.proofs.lemmas.Bool.{and_parts, and_from, leb-true, le-leb, ltb-true, lt-ltb}
 use borrow.Author.Tests.{clash}
 use Rattle.model.specs.Cells.{at}
-use Rattle.text.specs.declared.word.Register.{Register}
 use Rattle.text.specs.declared.node.ArithNode.{ArithNode}
 use Rattle.text.specs.declared.node.ArithNode.TheVariants.{Number, Current, Initial, Plus, Minus}
 use Rattle.text.specs.declared.node.TestNode.{TestNode}
 use Rattle.text.specs.declared.node.TestNode.TheVariants.{Always, Less, AtMost, Equal, Both, Either, NotBoth}
-use Rattle.text.specs.Words.{register_index}
 use Rattle.text.specs.Nodes.{nodes, Before, ArithAt, TestAt}
 use Rattle.text.specs.Expressions.{Arith, number, current, initial, plus, minus, Test, always, less, at_most, equal, both, either, not_both}
 use Rattle.machine.specs.Views.{arith_of, arith_by, arith_at, test_of, test_by, test_at, ordered, node_stands, stands_by, arith_stands, test_node_stands, test_stands_by, test_stands}

@@ -1,5 +1,5 @@
 -- States of a program, and what its statements do to them. Assumes nothing.
-use Rattle.std.proofs.Common.{◌≡◌, ℕ, zero, suc, ◌+◌, ◌-◌, ◌*◌, ◌/◌, ◌%◌, ◌^◌, ◌<◌, ◌≤◌, Bool, true, false, cond, ◌&&◌, eqb, leb, ◌⊎◌, List, [], ◌∷◌, ◌++◌, length, get_or, set, ℤ, pos, ◌+ℤ◌, Some, None, vec_items, Option, sym, refl, ap, ◌∙◌, subst, inl, inr, arith, w16, to_z, of_z}
+use Rattle.std.proofs.Common.{◌≡◌, ℕ, zero, suc, ◌/◌, ◌%◌, ◌^◌, ◌<◌, ◌≤◌, true, cond, leb, List, [], ◌∷◌, length, get_or, set, ℤ, pos, ◌+ℤ◌, Some, None, sym, refl, ap, ◌∙◌, inl, inr, arith, w16, to_z, of_z}
 use Rattle.std.proofs.lemmas.Bool.{and_parts, and_left, and_right, and_from, lt-leb, le-leb, cond-true, cond-false, cases_Bool}
 use Rattle.std.proofs.lemmas.Int.{ints}
 use Rattle.model.specs.Cells.{at, In}

@@ -1,5 +1,5 @@
 -- The cell of a program that has been read, and the parts that answer for it. Assumes nothing.
-use Rattle.std.specs.Prelude.{◌≡◌, ℕ, ◌/◌, ◌%◌, ◌^◌, Bool, true, cond, List, [], ◌∷◌, length, ℤ, Some, None, vec_items, Option}
+use Rattle.std.specs.Prelude.{ℕ, Bool, cond, List, length, ℤ, Some, None, vec_items, Option}
 use Rattle.model.specs.Cells.{CellMeaning, at}
 use Rattle.traces.specs.declared.range.Range.{Range}
 use Rattle.traces.specs.Traces.{State, range_at}

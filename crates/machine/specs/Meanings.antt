@@ -1,11 +1,11 @@
 -- The cell that a table of instructions is, and which lists of codes are the traces of a program. Assumes nothing.
-use Rattle.std.specs.Prelude.{◌≡◌, ℕ, ◌/◌, ◌%◌, ◌^◌, Bool, true, List, [], ◌∷◌, map, length}
+use Rattle.std.specs.Prelude.{◌≡◌, ℕ, true, List, map, length}
 use Rattle.model.specs.Cells.{CellMeaning}
 use Rattle.model.specs.Runs.{Run}
 use Rattle.traces.specs.declared.range.Range.{Range}
 use Rattle.traces.specs.Programs.{Tree, ranges}
 use Rattle.traces.specs.Traces.{State, Prefix}
-use Rattle.traces.specs.Tables.{Instruction, table_of}
+use Rattle.traces.specs.Tables.{Instruction}
 use Rattle.traces.specs.Codes.{codes, state_of, is_state, start_codes, next_codes, sound}
 use Rattle.traces.proofs.Laws.{is_sound, starts_few, nexts_few, starts_are_states, nexts_are_states, nexts_none, labels_limited, values_limited}
 

@@ -1,6 +1,5 @@
 -- What it is to be a key: an exact comparison, and a digest. Assumes nothing.
-use Rattle.std.specs.Prelude.{◌≡◌, ℕ, ◌*◌, ◌%◌, ◌^◌, Bool, true, false, cond, ◌&&◌, ◌==◌, bit_xor, refl}
-use Rattle.std.proofs.Common.{sym, ap}
+use Rattle.std.specs.Prelude.{◌≡◌, ℕ, ◌*◌, ◌%◌, ◌^◌, Bool, true, false, ◌&&◌, ◌==◌, bit_xor, refl}
 use borrow.Author.Tests.{eq-eqb, eqb-true, clash}
 use Rattle.model.specs.declared.configuration.Configuration.{Configuration}
 

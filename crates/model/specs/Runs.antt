@@ -1,5 +1,5 @@
 -- Runs of a cell, their moments, which of them a watch permits, and their configurations. Assumes nothing.
-use Rattle.std.specs.Prelude.{◌≡◌, ℕ, List, [], ◌∷◌, Some, None, Option}
+use Rattle.std.specs.Prelude.{◌≡◌, ℕ, List, [], ◌∷◌, Some}
 use Rattle.model.specs.declared.moment.Moment.{Moment}
 use Rattle.model.specs.declared.configuration.Configuration.{Configuration}
 use Rattle.model.specs.Cells.{CellMeaning, In}

@@ -1,5 +1,5 @@
 -- What is answered to a text is what its words deserve. Assumes nothing.
-use Rattle.std.proofs.Common.{◌≡◌, ℕ, ◌≤◌, List, [], ◌∷◌, map, length, sym, refl, ap, ◌∙◌, subst}
+use Rattle.std.proofs.Common.{◌≡◌, ℕ, ◌≤◌, List, length, ap, ◌∙◌, subst}
 use Rattle.grammar.specs.Answers.{Answer, good, fault, SameTexts}
 use Rattle.grammar.proofs.Meaning.{reading_stands}
 use Rattle.model.specs.Refusals.{cause_number}
@@ -12,7 +12,7 @@ use Rattle.text.specs.Table.{Item, Role, table, program_start}
 use Rattle.text.specs.Charges.{Memo, causes, program_memo}
 use Rattle.text.specs.Reading.{reads}
 use Rattle.text.proofs.Closed.{closable, program_lawful}
-use Rattle.traces.specs.Programs.{Tree, ranges}
+use Rattle.traces.specs.Programs.{Tree}
 use Rattle.machine.specs.declared.program.Program.{Program}
 use Rattle.machine.specs.Cells.{instructions}
 use Rattle.machine.proofs.Runs.{runs_of, states_of}

@@ -1,30 +1,23 @@
 -- How the table reads the numbers of a declaration. Assumes nothing.
-use Rattle.std.proofs.Common.{◌≡◌, ℕ, zero, suc, ◌+◌, ◌-◌, ◌<◌, ◌≤◌, Bool, true, false, cond, not, eqb, ltb, ◌⊎◌, List, [], ◌∷◌, ◌++◌, ℤ, pos, negsuc, ◌-ℤ◌, ◌≤ℤ◌, sym, refl, ap, ◌∙◌, subst, inl, inr, arith, lit≤, w16, to_z, of_z, le-ltb, lt-ltb}
-use borrow.Author.Tests.{clash}
-use Rattle.grammar.specs.Grammars.{Rule, Step, stuck, takes, find, Quiet}
-use Rattle.grammar.specs.Answers.{next, feed, Charge, fine, charged, Answer, good, fault, stepping, reading}
-use Rattle.grammar.proofs.Steps.{feed_takes, feed_stuck, reading_takes, reading_charged, reading_stuck, reading_ended, reading_without}
-use Rattle.model.specs.declared.refusal.Cause.{Cause}
-use Rattle.model.specs.declared.refusal.Cause.TheVariants.{Unexpected, Many, Deep, Number as Numbered, Range as OutOfRange, Starts as TooMany}
-use Rattle.text.specs.declared.word.Register.{Register}
-use Rattle.text.specs.declared.word.Token.{Token}
-use Rattle.text.specs.declared.word.Token.TheVariants.{Number, Current, Initial, True, And, Or, Nand, Reg, Sense, If, Else, While, Break, Empty, Rest, Name, Semicolon, OpenParen, CloseParen, OpenBrace, CloseBrace, OpenBracket, CloseBracket, Less, AtMost, Equal, Set, Plus, Minus, Colon, Question, Comma, Bar, Star, Stray}
+use Rattle.std.proofs.Common.{◌≡◌, ℕ, ◌<◌, ◌≤◌, Bool, false, ltb, List, [], ◌∷◌, ℤ, pos, ◌-ℤ◌, sym, refl, ap, ◌∙◌, subst, arith, lit≤, w16, to_z, of_z, le-ltb, lt-ltb}
+use Rattle.grammar.specs.Grammars.{Quiet}
+use Rattle.grammar.specs.Answers.{fine, charged, fault}
+use Rattle.model.specs.declared.refusal.Cause.TheVariants.{Number as Numbered}
+use Rattle.text.specs.declared.word.Token.TheVariants.{Number, Minus}
 use Rattle.text.specs.declared.word.Word.{Word}
-use Rattle.text.specs.declared.word.Scope.{Scope}
-use Rattle.text.specs.Words.{kind, at, allowed, amount, letter, names, register_index}
-use Rattle.text.specs.Table.{Role, plain, labelled, set_register, sensed_register, breaks, bounds, negates, declares, ends_declaration, Item, operand, more, one_test, joined, comparison, close_paren, close_bracket, bracketed, semicolon, becomes, sensed, guard, statement, other, end_if, end_while, block, statements, declarations, declared_letter, bound, bare_bound, close_declaration, following, letter_lines, declares_register, program_start, rules_of, optional, table, Line, line, statement_lines}
-use Rattle.text.specs.Charges.{Memo, causes, charge, when, deep, counting, with_parts, with_settings, more_settings, ranged, negating, bounding, declaring, declare, signed, size as gap, open_in, in_loop, program_memo}
-use Rattle.text.specs.Reading.{reads, Here, cause_of, Skipped, Unlike}
-use Rattle.text.specs.Reading.{Goes as ExpressionGoes, Stops as ExpressionStops}
-use Rattle.text.proofs.Tests.{of_kind, is_token, other_kind}
-use Rattle.text.proofs.Going.{takes_word, charges_word, refuses, leaves_out, not_deep, too_deep, sign_goes, sign_stops}
+use Rattle.text.specs.Words.{at, amount}
+use Rattle.text.specs.Table.{bounds, negates, Item, bound, bare_bound, rules_of, line}
+use Rattle.text.specs.Charges.{Memo, charge, when, deep, negating, bounding, signed, open_in}
+use Rattle.text.specs.Reading.{reads}
+use Rattle.text.proofs.Tests.{other_kind}
+use Rattle.text.proofs.Going.{takes_word, charges_word, refuses, not_deep}
 use Rattle.traces.specs.Proper.{proper}
 use Rattle.std.proofs.lemmas.Int.{ints}
 use Rattle.grammar.proofs.Trees.{find_later}
 use Rattle.text.specs.declared.reading.Fault.{Fault}
-use Rattle.text.specs.Reading.{place_of, FaultAt}
+use Rattle.text.specs.Reading.{FaultAt}
 use Rattle.text.proofs.Tests.{no_number}
-use Rattle.syntax.specs.Phrases.{Bound, plainly, negated}
+use Rattle.syntax.specs.Phrases.{plainly, negated}
 use Rattle.program.specs.Headers.{shifted, BoundRead, BoundStopped}
 
 module _ (w : Word) (ws : List Word) (n : ℕ) (e : w.token ≡ Number n) where

@@ -1,23 +1,21 @@
 -- How the table reads statements, word by word: what each reader's contract says of the words. Assumes nothing.
-use Rattle.std.proofs.Common.{◌≡◌, ℕ, zero, suc, ◌+◌, ◌-◌, ◌<◌, ◌≤◌, Bool, true, false, cond, not, eqb, ltb, ◌⊎◌, List, [], ◌∷◌, ◌++◌, sym, refl, ap, ◌∙◌, subst, inl, inr, append_assoc, append-nil, arith, lit≤, le-ltb, lt-ltb}
-use borrow.Author.Tests.{clash}
-use Rattle.grammar.specs.Grammars.{Rule, Step, stuck, takes, find, Quiet}
-use Rattle.grammar.specs.Answers.{next, feed, Charge, fine, charged, Answer, good, fault, stepping, reading}
+use Rattle.std.proofs.Common.{◌≡◌, ℕ, suc, ◌-◌, ◌<◌, ◌≤◌, Bool, true, false, cond, not, List, [], ◌∷◌, ◌++◌, sym, refl, ap, ◌∙◌, subst, inl, inr, append_assoc, append-nil, arith, lit≤, le-ltb, lt-ltb}
+use Rattle.grammar.specs.Grammars.{Step, stuck, takes, find, Quiet}
+use Rattle.grammar.specs.Answers.{next, feed, Charge, fine, charged, fault, stepping, reading}
 use Rattle.grammar.proofs.Trees.{find_later}
-use Rattle.grammar.proofs.Steps.{feed_takes, feed_stuck, reading_takes, reading_charged, reading_stuck, reading_ended, reading_without}
 use Rattle.model.specs.declared.refusal.Cause.{Cause}
-use Rattle.model.specs.declared.refusal.Cause.TheVariants.{Unexpected, Many, Deep, Number as Numbered, Register as Registered, Break as Broken}
+use Rattle.model.specs.declared.refusal.Cause.TheVariants.{Many, Deep, Register as Registered, Break as Broken}
 use Rattle.text.specs.declared.word.Register.{Register}
 use Rattle.text.specs.declared.word.Token.{Token}
-use Rattle.text.specs.declared.word.Token.TheVariants.{Number, Current, Initial, True, And, Or, Nand, Reg, Sense, If, Else, While, Break, Empty, Rest, Name, Semicolon, OpenParen, CloseParen, OpenBrace, CloseBrace, OpenBracket, CloseBracket, Less, AtMost, Equal, Set, Plus, Minus, Colon, Question, Comma, Bar, Star, Stray}
+use Rattle.text.specs.declared.word.Token.TheVariants.{Current, Sense, If, Else, While, Break, Semicolon, OpenBrace, CloseBrace, Set}
 use Rattle.text.specs.declared.word.Word.{Word}
 use Rattle.text.specs.declared.word.Scope.{Scope}
-use Rattle.text.specs.Words.{kind, at, allowed}
-use Rattle.text.specs.Table.{Role, plain, labelled, set_register, sensed_register, breaks, Item, operand, more, one_test, joined, comparison, close_paren, close_bracket, bracketed, semicolon, becomes, sensed, guard, statement, other, end_if, end_while, block, statements, rules_of, optional, table, Line, line, statement_lines}
+use Rattle.text.specs.Words.{at, allowed}
+use Rattle.text.specs.Table.{Role, plain, labelled, set_register, sensed_register, breaks, Item, operand, more, semicolon, becomes, sensed, guard, statement, other, end_if, end_while, block, statements, rules_of, optional, table, line, statement_lines}
 use Rattle.text.specs.Charges.{Memo, causes, charge, when, deep, one_statement, counting, with_parts, opens, open_in, in_loop}
 use Rattle.text.specs.Reading.{reads, Here, cause_of, Skipped, Unlike}
 use Rattle.text.specs.Reading.{Goes as ExpressionGoes, Stops as ExpressionStops}
-use Rattle.text.proofs.Tests.{of_kind, is_token, other_kind}
+use Rattle.text.proofs.Tests.{is_token}
 use Rattle.text.proofs.Going.{takes_word, charges_word, refuses, leaves_out, not_deep, too_deep, sign_goes, sign_stops}
 use Rattle.program.specs.Places.{Place, Goes, Stops}
 use Rattle.program.specs.Outcomes.{Letter}

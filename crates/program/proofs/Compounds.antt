@@ -1,46 +1,40 @@
 -- Statements with statements in them, and lists of statements, put together. Assumes nothing.
-use Rattle.std.proofs.Common.{◌≡◌, ℕ, zero, suc, ◌+◌, ◌-◌, ◌<◌, ◌≤◌, Bool, true, false, ◌⊎◌, List, [], ◌∷◌, ◌++◌, length, set, Some, None, vec_items, vec_len, Option, sym, refl, ap, ◌∙◌, subst, inl, inr, append_assoc, append-nil, arith, lit≤, length-append}
+use Rattle.std.proofs.Common.{◌≡◌, ℕ, zero, suc, ◌+◌, ◌-◌, ◌<◌, ◌≤◌, Bool, true, List, [], ◌∷◌, ◌++◌, length, set, Some, vec_items, vec_len, sym, refl, ap, ◌∙◌, subst, inl, inr, append_assoc, append-nil, arith, lit≤, length-append}
 use Rattle.model.specs.declared.refusal.Cause.{Cause}
 use Rattle.text.specs.declared.expressions.Expressions.{Expressions}
-use Rattle.text.specs.declared.node.ArithNode.{ArithNode}
-use Rattle.text.specs.declared.node.TestNode.{TestNode}
 use Rattle.text.specs.declared.reading.Fault.{Fault}
 use Rattle.text.specs.declared.word.Word.{Word}
-use Rattle.text.specs.Expressions.{Arith, Test}
-use Rattle.text.specs.Nodes.{ArithAt, TestAt}
+use Rattle.text.specs.Expressions.{Test}
+use Rattle.text.specs.Nodes.{TestAt}
 use Rattle.text.specs.Table.{Item, statement, guard, other, end_while, rules_of}
-use Rattle.text.specs.Reading.{reads, place_of, Skipped, Unlike, cause_of, FaultAt}
-use Rattle.text.specs.Outcomes.{ArithRead, TestRead}
-use Rattle.text.proofs.Stands.{vec_long, arith_more, test_more}
-use Rattle.traces.specs.Programs.{Part, size, if_then, if_else, while, block, empty, list}
-use Rattle.traces.proofs.Links.{to_set, to_sense, to_skip, to_break, to_choose, to_repeat, Kind as PureKind, Draft as PureDraft, drafts, drafts_length}
+use Rattle.text.specs.Reading.{reads, Unlike, cause_of, FaultAt}
+use Rattle.text.specs.Outcomes.{TestRead}
+use Rattle.text.proofs.Stands.{vec_long, test_more}
+use Rattle.traces.specs.Programs.{size, if_then, if_else, while, block, empty, list}
+use Rattle.traces.proofs.Links.{drafts, drafts_length}
 use Rattle.syntax.specs.Phrases.{States, one, behind, ifs, if_elses, whiles, blocks, no_more, one_more}
 use Rattle.text.specs.declared.word.Register.{Register}
 use Rattle.text.specs.declared.word.Token.TheVariants.{Current, Initial, Sense, Semicolon, Break, If, While, Else, OpenParen, CloseParen, OpenBrace, CloseBrace}
-use Rattle.text.specs.Words.{register_index}
 use Rattle.text.specs.Derivations.{Condition, Free}
-use Rattle.program.specs.declared.draft.Kind.{Kind}
 use Rattle.program.specs.declared.draft.Draft.{Draft}
 use Rattle.program.specs.declared.board.Board.{Board}
 use Rattle.program.specs.declared.site.Site.{Site}
-use Rattle.program.specs.Places.{Place, Goes, Stops}
-use Rattle.program.specs.Outcomes.{KindFor, DraftFor, DraftsFor, Grown, PhraseRead, PhraseStopped, Guarded, guarded}
+use Rattle.program.specs.Places.{Goes, Stops}
+use Rattle.program.specs.Outcomes.{DraftsFor, Grown, PhraseRead, PhraseStopped, Guarded, guarded}
 use borrow.Author.Tests.{clash}
 use Rattle.grammar.specs.Grammars.{Quiet, find, takes}
 use Rattle.text.specs.declared.word.Token.{Token}
 use Rattle.text.specs.declared.word.Scope.{Scope}
-use Rattle.grammar.specs.Answers.{fault}
 use Rattle.grammar.proofs.Trees.{find_later}
 use Rattle.text.specs.Charges.{Memo, counting, with_parts, opens, in_loop}
 use Rattle.text.specs.Words.{at}
 use Rattle.text.specs.Table.{line, plain, labelled, end_if, sensed, semicolon, breaks as breaks_role, block as block_item, set_register, becomes, operand, more, Line}
 use Rattle.text.specs.declared.word.Register.TheVariants.{A as ra}
 use Rattle.text.proofs.Going.{refuses}
-use Rattle.text.specs.Reading.{Goes as ExpressionGoes}
-use Rattle.text.proofs.Tests.{is_token, other_kind, no_register}
+use Rattle.text.proofs.Tests.{other_kind, no_register}
 use Rattle.program.specs.declared.draft.Kind.TheVariants.{Choose, Repeat}
-use Rattle.program.specs.Lists.{Opens, Ended, Begun, PlaceOn, ListRead, ListDone, ListStopped, ElseRead, ElseStopped}
-use Rattle.program.proofs.Chains.{part_goes, part_first, else_goes, else_stops, brace_goes, brace_end, brace_stops}
+use Rattle.program.specs.Lists.{Opens, Ended, Begun, PlaceOn, ListRead, ListStopped, ElseRead, ElseStopped}
+use Rattle.program.proofs.Chains.{part_goes, part_first, else_goes, else_stops}
 use Rattle.program.proofs.Parts.{grown_none, grown_more, grown_to, drafts_grown, drafts_append, longer, pushed_long, test_grown, phrase_stops}
 
 -- ---- lists

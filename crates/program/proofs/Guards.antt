@@ -1,6 +1,6 @@
 -- Reading ( B ). Assumes nothing.
-use Rattle.std.proofs.Common.{◌≡◌, ℕ, List, [], ◌∷◌, ◌++◌, sym, refl, ap, ◌∙◌, subst, lit≤}
-use Rattle.grammar.specs.Grammars.{Quiet, find, takes, stuck}
+use Rattle.std.proofs.Common.{◌≡◌, ℕ, List, [], ◌∷◌, sym, refl, subst, lit≤}
+use Rattle.grammar.specs.Grammars.{Quiet}
 use Rattle.grammar.proofs.Trees.{find_later}
 use Rattle.text.specs.declared.expressions.Expressions.{Expressions}
 use Rattle.text.specs.declared.word.Scope.{Scope}

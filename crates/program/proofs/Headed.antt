@@ -1,23 +1,18 @@
 -- How the table reads a declaration, and what it adds to what has been declared. Assumes nothing.
-use Rattle.std.proofs.Common.{◌≡◌, ℕ, zero, suc, ◌+◌, ◌-◌, ◌*◌, ◌<◌, ◌≤◌, Bool, true, false, cond, not, ◌&&◌, eqb, ltb, ◌⊎◌, List, [], ◌∷◌, ◌++◌, map, length, get_or, set, ℤ, pos, negsuc, ◌-ℤ◌, nat_abs, ◌≤ℤ◌, Some, None, Option, sym, refl, ap, ◌∙◌, subst, inl, inr, mul_assoc, mul_comm, one-mul, mul-one, arith, lit≤, le-ltb, lt-ltb}
+use Rattle.std.proofs.Common.{◌≡◌, ℕ, zero, suc, ◌*◌, ◌<◌, ◌≤◌, Bool, true, false, not, ◌&&◌, ltb, List, [], ◌∷◌, ◌++◌, map, length, get_or, set, ℤ, pos, negsuc, ◌-ℤ◌, nat_abs, ◌≤ℤ◌, Some, None, Option, sym, refl, ap, ◌∙◌, subst, inl, inr, mul_assoc, mul_comm, one-mul, arith, le-ltb, lt-ltb}
 use borrow.Author.Tests.{clash}
-use Rattle.grammar.specs.Grammars.{Rule, Step, stuck, takes, find, Quiet}
-use Rattle.grammar.specs.Answers.{next, feed, Charge, fine, charged, Answer, good, fault, stepping, reading}
-use Rattle.grammar.proofs.Steps.{feed_takes, feed_stuck, reading_takes, reading_charged, reading_stuck, reading_ended, reading_without}
+use Rattle.grammar.specs.Grammars.{Quiet}
+use Rattle.grammar.specs.Answers.{Charge, fine, fault}
 use Rattle.model.specs.declared.refusal.Cause.{Cause}
-use Rattle.model.specs.declared.refusal.Cause.TheVariants.{Unexpected, Many, Deep, Number as Numbered, Range as OutOfRange, Starts as TooMany}
+use Rattle.model.specs.declared.refusal.Cause.TheVariants.{Range as OutOfRange, Starts as TooMany}
 use Rattle.text.specs.declared.word.Register.{Register}
-use Rattle.text.specs.declared.word.Token.{Token}
-use Rattle.text.specs.declared.word.Token.TheVariants.{Number, Current, Initial, True, And, Or, Nand, Reg, Sense, If, Else, While, Break, Empty, Rest, Name, Semicolon, OpenParen, CloseParen, OpenBrace, CloseBrace, OpenBracket, CloseBracket, Less, AtMost, Equal, Set, Plus, Minus, Colon, Question, Comma, Bar, Star, Stray}
+use Rattle.text.specs.declared.word.Token.TheVariants.{Current, Reg, Semicolon}
 use Rattle.text.specs.declared.word.Word.{Word}
-use Rattle.text.specs.declared.word.Scope.{Scope}
-use Rattle.text.specs.Words.{kind, at, allowed, amount, letter, names, register_index}
-use Rattle.text.specs.Table.{Role, plain, labelled, set_register, sensed_register, breaks, bounds, negates, declares, ends_declaration, Item, operand, more, one_test, joined, comparison, close_paren, close_bracket, bracketed, semicolon, becomes, sensed, guard, statement, other, end_if, end_while, block, statements, declarations, declared_letter, bound, bare_bound, close_declaration, following, letter_lines, declares_register, program_start, rules_of, optional, table, Line, line, statement_lines}
-use Rattle.text.specs.Charges.{Memo, causes, charge, when, deep, counting, with_parts, with_settings, more_settings, ranged, negating, bounding, declaring, declare, signed, size as gap, open_in, in_loop, program_memo}
-use Rattle.text.specs.Reading.{reads, Here, cause_of, Skipped, Unlike}
-use Rattle.text.specs.Reading.{Goes as ExpressionGoes, Stops as ExpressionStops}
-use Rattle.text.proofs.Tests.{of_kind, is_token, other_kind}
-use Rattle.text.proofs.Going.{takes_word, charges_word, refuses, leaves_out, not_deep, too_deep, sign_goes, sign_stops}
+use Rattle.text.specs.Words.{at, letter, register_index}
+use Rattle.text.specs.Table.{plain, declares, ends_declaration, Item, statements, declarations, declared_letter, bound, close_declaration, following, program_start, rules_of, line}
+use Rattle.text.specs.Charges.{Memo, charge, when, deep, with_settings, more_settings, ranged, declaring, declare, size as gap, open_in, program_memo}
+use Rattle.text.specs.Reading.{reads, Unlike}
+use Rattle.text.proofs.Going.{takes_word, charges_word, refuses, not_deep}
 use lib.Signed.{le_z}
 use Rattle.std.proofs.lemmas.Int.{ints}
 use Rattle.std.proofs.lemmas.Bool.{and_parts, and_from, cases_Bool}
@@ -28,16 +23,15 @@ use Rattle.text.specs.declared.word.Register.TheVariants.{A as ra, B as rb, C as
 use Rattle.text.specs.Reading.{place_of, FaultAt}
 use Rattle.traces.specs.declared.range.Range.{Range}
 use Rattle.traces.specs.Proper.{proper}
-use Rattle.traces.specs.Programs.{range, nil}
+use Rattle.traces.specs.Programs.{range}
 use Rattle.traces.specs.Tables.{above}
 use Rattle.traces.specs.Codes.{settings}
 use Rattle.traces.proofs.Spans.{Ordered, ordered, is_proper, range_ordered}
-use Rattle.syntax.specs.Phrases.{Bound, Bounds, Declares, register, Ranged, undeclared}
+use Rattle.syntax.specs.Phrases.{Bound, Bounds, Declares, register, Ranged}
 use Rattle.syntax.proofs.Forth.{from_register, letter_found, following_is}
 use Rattle.syntax.proofs.Letters.{index_small}
 use Rattle.program.specs.declared.header.Header.{Header}
-use Rattle.program.specs.Headers.{shifted, BoundRead, BoundStopped, flag, Heads, HeaderRead, HeaderStopped, Unlettered}
-use Rattle.program.specs.Growth.{DeclaredSo}
+use Rattle.program.specs.Headers.{shifted, BoundRead, BoundStopped, flag, HeaderRead, HeaderStopped, Unlettered}
 
 -- ---- the register of a place
 record At (i : ℕ) : Type 0 where

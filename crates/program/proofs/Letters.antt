@@ -1,5 +1,5 @@
 -- Words that are no letter of a register from a given one on. Assumes nothing.
-use Rattle.std.proofs.Common.{◌≡◌, ℕ, ◌<◌, ◌≤◌, Bool, true, false, cond, eqb, ◌⊎◌, List, [], ◌∷◌, sym, refl, ap, ◌∙◌, inl, inr, arith}
+use Rattle.std.proofs.Common.{◌≡◌, ◌<◌, ◌≤◌, false, [], ◌∷◌, ◌∙◌, inl, inr, arith}
 use Rattle.std.proofs.lemmas.Bool.{eqb-true, cases_Bool}
 use Rattle.grammar.specs.Grammars.{stuck, find}
 use Rattle.grammar.proofs.Trees.{find_later}
@@ -8,7 +8,7 @@ use Rattle.text.specs.declared.word.Register.TheVariants.{A as ra, B as rb, C as
 use Rattle.text.specs.declared.word.Token.TheVariants.{Current}
 use Rattle.text.specs.declared.word.Word.{Word}
 use Rattle.text.specs.Words.{letter, names, register_index}
-use Rattle.text.specs.Table.{letter_lines, declares_register, Line}
+use Rattle.text.specs.Table.{letter_lines, declares_register}
 use Rattle.syntax.proofs.Letters.{letter_is}
 
 not_named : (r q : Register) (w : Word) → ((p : Register) → w.token ≡ Current p → register_index p < register_index r) → register_index r ≤ register_index q → names q w ≡ false

@@ -1,17 +1,16 @@
 -- The exits that are computed are those of the tree. Assumes nothing.
-use Rattle.std.proofs.Common.{◌≡◌, ℕ, zero, suc, ◌+◌, ◌<◌, ◌≤◌, Bool, true, false, cond, ltb, ◌⊎◌, List, [], ◌∷◌, ◌++◌, length, get_or, Some, None, Option, sym, refl, ap, ◌∙◌, subst, inl, inr, arith}
+use Rattle.std.proofs.Common.{◌≡◌, ℕ, zero, suc, ◌+◌, ◌<◌, cond, ltb, List, [], ◌∷◌, length, get_or, Some, None, sym, refl, ap, ◌∙◌, subst, arith}
 use Rattle.std.proofs.lemmas.Bool.{le-ltb}
 use Rattle.text.specs.declared.node.ArithNode.{ArithNode}
 use Rattle.text.specs.declared.node.TestNode.{TestNode}
 use Rattle.traces.specs.Programs.{Part, size}
-use Rattle.traces.proofs.Links.{to_set, to_sense, to_skip, to_break, to_choose, to_repeat, Kind as PureKind, Draft as PureDraft, drafts, all_exits, exits, draft, Exits as PureExits, Around as PureAround, around, around_of, part_of, settled, entry, Owned, Ruled, ruled, Drafted as PureDrafted, Exited, drafts_length, exits_length, Inside}
+use Rattle.traces.proofs.Links.{to_set, to_sense, to_skip, to_break, to_choose, to_repeat, Kind as PureKind, Draft as PureDraft, drafts, all_exits, exits, draft, Exits as PureExits, around_of, part_of, entry, Owned, Ruled, ruled, Drafted as PureDrafted, Exited, drafts_length}
 use Rattle.program.specs.declared.draft.Kind.{Kind}
-use Rattle.program.specs.declared.draft.Kind.TheVariants.{Set, Sense, Skip, Break, Choose, Repeat}
 use Rattle.program.specs.declared.draft.Draft.{Draft}
 use Rattle.program.specs.declared.exits.Exits.{Exits}
 use Rattle.program.specs.declared.exits.Around.{Around}
 use Rattle.program.specs.Outcomes.{KindFor, DraftFor, DraftsFor}
-use Rattle.program.specs.Linked.{Drafted, draft_at, exits_at, around_at, enclosed_kind, owner_of, OwnerAt}
+use Rattle.program.specs.Linked.{draft_at, exits_at, around_at, enclosed_kind, owner_of}
 
 drafted_by : (D : ℕ → PureDraft) (X : ℕ → PureExits) (n : ℕ) (ps : List PureDraft) (ℓ : ℕ) → ((i : ℕ) → i < length ps → D (ℓ + i) ≡ get_or ps i (draft to_skip None 0)) → PureDrafted D X n ℓ ps
 drafted_by D X n [] ℓ h = tt

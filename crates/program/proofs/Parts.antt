@@ -1,5 +1,5 @@
 -- Putting together what the readers of statements answer. Assumes nothing.
-use Rattle.std.proofs.Common.{◌≡◌, ℕ, zero, suc, ◌+◌, ◌<◌, ◌≤◌, Bool, true, false, ◌⊎◌, List, [], ◌∷◌, ◌++◌, length, set, Some, None, vec_items, vec_len, Option, sym, refl, ap, ◌∙◌, subst, inl, inr, append_assoc, append-nil, arith, length-append}
+use Rattle.std.proofs.Common.{◌≡◌, ℕ, suc, ◌+◌, List, [], ◌∷◌, ◌++◌, length, vec_items, vec_len, sym, refl, ap, ◌∙◌, subst, append_assoc, append-nil, arith, length-append}
 use Rattle.model.specs.declared.refusal.Cause.{Cause}
 use Rattle.text.specs.declared.expressions.Expressions.{Expressions}
 use Rattle.text.specs.declared.node.ArithNode.{ArithNode}
@@ -7,7 +7,6 @@ use Rattle.text.specs.declared.node.TestNode.{TestNode}
 use Rattle.text.specs.declared.reading.Fault.{Fault}
 use Rattle.text.specs.declared.word.Word.{Word}
 use Rattle.text.specs.Expressions.{Arith, Test}
-use Rattle.text.specs.Nodes.{ArithAt, TestAt}
 use Rattle.text.specs.Table.{Item, statement}
 use Rattle.text.specs.Reading.{place_of}
 use Rattle.text.specs.Outcomes.{ArithRead, TestRead}
@@ -23,8 +22,8 @@ use Rattle.program.specs.declared.draft.Kind.{Kind}
 use Rattle.program.specs.declared.draft.Draft.{Draft}
 use Rattle.program.specs.declared.board.Board.{Board}
 use Rattle.program.specs.declared.site.Site.{Site}
-use Rattle.program.specs.Places.{Place, Goes, Stops}
-use Rattle.program.specs.Outcomes.{KindFor, DraftFor, DraftsFor, Grown, PhraseRead, PhraseStopped, Letter}
+use Rattle.program.specs.Places.{Goes, Stops}
+use Rattle.program.specs.Outcomes.{KindFor, DraftsFor, Grown, PhraseRead, PhraseStopped, Letter}
 
 pub phrase_stops : {js : List Item} {site : Site} {ws : List Word} {x : Board} (f : Fault) (c : Cause) (v : List Word) → f.cause ≡ c → f.place ≡ place_of site.limits.end v
     → Stops x.expressions.counted (vec_len x.drafts) site.limits.scope site.left site.inside js ws c v → PhraseStopped js site ws x f

@@ -1,5 +1,5 @@
 -- A statement takes at least one word. Assumes nothing.
-use Rattle.std.proofs.Common.{◌≡◌, ℕ, ◌<◌, ◌≤◌, List, [], ◌∷◌, length, arith}
+use Rattle.std.proofs.Common.{◌<◌, ◌≤◌, List, length, arith}
 use Rattle.text.specs.declared.word.Word.{Word}
 use Rattle.text.specs.Expressions.{Arith, Test}
 use Rattle.text.specs.Derivations.{Sum, sum, Condition, condition}

@@ -1,22 +1,21 @@
 -- Statements that are linked are the table of the tree. Assumes nothing.
-use Rattle.std.proofs.Common.{◌≡◌, ℕ, zero, suc, ◌+◌, ◌<◌, ◌≤◌, Bool, true, false, cond, ◌&&◌, ltb, leb, ◌⊎◌, List, [], ◌∷◌, ◌++◌, length, get_or, take, Some, None, Option, sym, refl, ap, ◌∙◌, subst, inl, inr, arith}
+use Rattle.std.proofs.Common.{◌≡◌, ℕ, zero, suc, ◌+◌, ◌<◌, ◌≤◌, true, cond, List, [], ◌∷◌, ◌++◌, length, get_or, take, None, sym, refl, ap, ◌∙◌, subst, inl, inr, arith}
 use Rattle.std.proofs.lemmas.List.{take_more, take_all}
-use Rattle.std.proofs.lemmas.Bool.{and_from, and_parts, le-leb, cases_lt, lt-ltb, le-ltb, cases_Bool}
+use Rattle.std.proofs.lemmas.Bool.{and_from, and_parts, le-leb, cases_lt, lt-ltb, le-ltb}
 use Rattle.text.specs.declared.node.ArithNode.{ArithNode}
 use Rattle.text.specs.declared.node.TestNode.{TestNode}
-use Rattle.text.specs.Expressions.{Arith, Test}
 use Rattle.traces.specs.Programs.{Part, assign, sense, skip, if_then, if_else, while, break, block, empty, list, size, begins}
 use Rattle.traces.specs.Tables.{Instruction, assigns, senses, goes, branches, table}
 use Rattle.traces.specs.Codes.{leads_to, lead_to}
 use Rattle.traces.proofs.Walks.{begins_is, length_table}
-use Rattle.traces.proofs.Links.{to_set, to_sense, to_skip, to_break, to_choose, to_repeat, Kind as PureKind, Draft as PureDraft, drafts, all_exits, exits, draft, Exits as PureExits, entry, linked, links, table_links, drafts_length, exits_length, Ruled}
+use Rattle.traces.proofs.Links.{to_set, to_sense, to_skip, to_break, to_choose, to_repeat, Kind as PureKind, Draft as PureDraft, drafts, all_exits, exits, draft, Exits as PureExits, entry, linked, links, table_links, drafts_length, exits_length}
 use Rattle.machine.specs.declared.statement.Statement.{Statement}
-use Rattle.machine.specs.Views.{view, views, statement_stands, all_stand, arith_at, test_at}
+use Rattle.machine.specs.Views.{view, views, statement_stands, all_stand, arith_at}
 use Rattle.machine.proofs.Standing.{arith_is, arith_found, test_is, test_found}
 use Rattle.program.specs.declared.draft.Kind.{Kind}
 use Rattle.program.specs.declared.draft.Draft.{Draft}
 use Rattle.program.specs.declared.exits.Exits.{Exits}
-use Rattle.program.specs.Outcomes.{KindFor, DraftFor, DraftsFor}
+use Rattle.program.specs.Outcomes.{KindFor, DraftsFor}
 use Rattle.program.specs.Linked.{draft_at, exits_at}
 use Rattle.program.specs.Statements.{made_of, Small}
 use Rattle.program.proofs.Linking.{rule, for_at, as_long}

@@ -1,16 +1,16 @@
 -- A whole program, put together from its declarations and its statements. Assumes nothing.
-use Rattle.std.proofs.Common.{◌≡◌, ℕ, zero, suc, ◌+◌, ◌<◌, ◌≤◌, Bool, true, false, eqb, leb, ◌⊎◌, List, [], ◌∷◌, ◌++◌, map, length, get_or, Some, None, vec_items, vec_len, Option, sym, refl, ap, ◌∙◌, subst, inl, inr, arith, lit≤, eq-eqb}
+use Rattle.std.proofs.Common.{◌≡◌, ℕ, zero, suc, ◌≤◌, true, false, List, [], ◌∷◌, ◌++◌, map, length, get_or, None, vec_items, vec_len, Option, sym, refl, ap, ◌∙◌, subst, inl, inr, arith, lit≤, eq-eqb}
 use Rattle.std.proofs.lemmas.Bool.{and_from, le-leb}
 use Rattle.grammar.specs.Grammars.{stuck}
-use Rattle.grammar.specs.Answers.{next, fault, good as faultless}
+use Rattle.grammar.specs.Answers.{next, fault}
 use Rattle.grammar.proofs.Steps.{reading_stuck, reading_good}
 use Rattle.text.specs.declared.reading.Fault.{Fault}
 use Rattle.text.specs.declared.word.Register.TheVariants.{A as ra, B as rb, C as rc, D as rd, E as re, F as rf}
 use Rattle.text.specs.declared.word.Scope.TheVariants.{Declared}
-use Rattle.text.specs.declared.word.Token.TheVariants.{CloseBrace, Reg}
+use Rattle.text.specs.declared.word.Token.TheVariants.{CloseBrace}
 use Rattle.text.specs.declared.word.Word.{Word}
 use Rattle.text.specs.Words.{at}
-use Rattle.text.specs.Table.{Item, statements, declarations, program_start, table}
+use Rattle.text.specs.Table.{statements, declarations, program_start, table}
 use Rattle.text.specs.Charges.{Memo, causes, counting, with_parts, program_memo}
 use Rattle.text.specs.Reading.{reads, cause_of, FaultAt}
 use Rattle.text.proofs.Derived.{find_at}
@@ -18,18 +18,17 @@ use Rattle.text.proofs.Going.{leaves_out}
 use Rattle.text.proofs.Stands.{vec_long}
 use Rattle.text.proofs.Tests.{is_token}
 use Rattle.traces.specs.declared.range.Range.{Range}
-use Rattle.traces.specs.Programs.{Part, empty, size, range}
+use Rattle.traces.specs.Programs.{Part, size, range}
 use Rattle.traces.specs.Tables.{Instruction, table as table_from}
 use Rattle.traces.specs.Codes.{settings, lead_to, sound}
 use Rattle.traces.proofs.Links.{drafts}
 use Rattle.traces.proofs.Walks.{length_table}
-use Rattle.syntax.specs.Phrases.{Declares, no_register, all_declared, Derives, States, behind, no_more, Ranged, undeclared}
+use Rattle.syntax.specs.Phrases.{Declares, no_register, all_declared, States, behind, no_more, Ranged, undeclared}
 use Rattle.syntax.proofs.Forth.{from_register, quiet_declarations}
 use Rattle.program.specs.declared.board.Board.{Board}
-use Rattle.program.specs.declared.draft.Draft.{Draft}
 use Rattle.program.specs.declared.header.Header.{Header}
 use Rattle.program.specs.declared.site.Site.{Site}
-use Rattle.program.specs.Headers.{flag, Blank, Heads, HeaderRead, HeaderStopped, NoReg}
+use Rattle.program.specs.Headers.{flag, Blank, HeaderRead, HeaderStopped, NoReg}
 use Rattle.program.specs.Lists.{PlaceOn, ListDone, ListStopped}
 use Rattle.program.specs.Outcomes.{DraftsFor}
 use Rattle.program.specs.Wholes.{Few, WholeRead}

@@ -1,5 +1,5 @@
 -- One register more is declared, or there are too many settings. Assumes nothing.
-use Rattle.std.specs.Prelude.{◌≡◌, ℕ, suc, ◌*◌, ◌<◌, ◌≤◌, Bool, true, false, ◌⊎◌, Some, slice_set}
+use Rattle.std.specs.Prelude.{◌≡◌, suc, ◌*◌, ◌<◌, ◌≤◌, Bool, true, false, Some, slice_set}
 use Rattle.text.specs.declared.word.Register.{Register}
 use Rattle.text.specs.Words.{register_index}
 use Rattle.traces.specs.declared.range.Range.{Range}

@@ -1,15 +1,14 @@
 -- What the readers of declarations answer. Assumes nothing.
-use Rattle.std.specs.Prelude.{◌≡◌, ℕ, zero, suc, ◌<◌, ◌≤◌, Bool, true, false, ◌⊎◌, List, [], ◌∷◌, ◌++◌, map, length, ℤ, pos, negsuc, ◌≤ℤ◌, Some, None, Option, slice_index_or}
+use Rattle.std.specs.Prelude.{◌≡◌, ℕ, ◌<◌, ◌≤◌, Bool, true, false, ◌⊎◌, List, [], ◌∷◌, ◌++◌, map, length, ℤ, pos, negsuc, ◌≤ℤ◌, Some, None, Option, slice_index_or}
 use Rattle.text.specs.Derivations.{Free}
 use Rattle.grammar.specs.Answers.{fault}
 use Rattle.text.specs.declared.reading.Fault.{Fault}
 use Rattle.text.specs.declared.word.Scope.TheVariants.{Declared}
 use Rattle.text.specs.declared.word.Token.TheVariants.{Reg, Current}
 use Rattle.text.specs.declared.word.Word.{Word}
-use Rattle.text.specs.Table.{Item, bound, statements, declarations, program_start}
+use Rattle.text.specs.Table.{Item, bound, statements, program_start}
 use Rattle.text.specs.declared.word.Register.{Register}
 use Rattle.text.specs.Words.{register_index}
-use Rattle.text.specs.declared.word.Register.TheVariants.{A as ra, B as rb, C as rc, D as rd, E as re, F as rf}
 use Rattle.text.specs.Charges.{Memo, open_in, program_memo}
 use Rattle.text.specs.Reading.{reads, place_of}
 use Rattle.traces.specs.declared.range.Range.{Range}

@@ -1,5 +1,5 @@
 -- What the reader of a list of statements answers. Assumes nothing.
-use Rattle.std.specs.Prelude.{◌≡◌, ℕ, Bool, true, false, ◌⊎◌, List, [], ◌∷◌, ◌++◌, vec_items, vec_len}
+use Rattle.std.specs.Prelude.{◌≡◌, true, false, ◌⊎◌, List, [], ◌∷◌, ◌++◌, vec_items, vec_len}
 use Rattle.grammar.specs.Answers.{fault}
 use Rattle.text.specs.declared.reading.Fault.{Fault}
 use Rattle.text.specs.declared.word.Token.TheVariants.{CloseBrace, Else}

@@ -1,6 +1,5 @@
 -- What the readers of statements answer. Assumes nothing.
-use Rattle.std.specs.Prelude.{◌≡◌, ℕ, suc, ◌+◌, ◌<◌, Bool, true, false, ◌⊎◌, List, [], ◌∷◌, ◌++◌, vec_items, vec_len, Option}
-use Rattle.model.specs.declared.refusal.Cause.{Cause}
+use Rattle.std.specs.Prelude.{◌≡◌, ℕ, ◌⊎◌, List, [], ◌∷◌, ◌++◌, vec_items, vec_len}
 use Rattle.text.specs.declared.expressions.Expressions.{Expressions}
 use Rattle.text.specs.declared.node.ArithNode.{ArithNode}
 use Rattle.text.specs.declared.node.TestNode.{TestNode}
@@ -9,7 +8,7 @@ use Rattle.text.specs.declared.word.Register.{Register}
 use Rattle.text.specs.declared.word.Token.{Token}
 use Rattle.text.specs.declared.word.Token.TheVariants.{Current, Initial, OpenParen, CloseParen}
 use Rattle.text.specs.declared.word.Word.{Word}
-use Rattle.text.specs.Expressions.{Arith, Test}
+use Rattle.text.specs.Expressions.{Test}
 use Rattle.text.specs.Nodes.{ArithAt, TestAt}
 use Rattle.text.specs.Words.{register_index}
 use Rattle.text.specs.Table.{Item}
@@ -22,7 +21,7 @@ use Rattle.program.specs.declared.draft.Kind.TheVariants.{Set, Sense, Skip, Brea
 use Rattle.program.specs.declared.draft.Draft.{Draft}
 use Rattle.program.specs.declared.board.Board.{Board}
 use Rattle.program.specs.declared.site.Site.{Site}
-use Rattle.program.specs.Places.{Place, Goes, Stops}
+use Rattle.program.specs.Places.{Goes, Stops}
 
 -- what stands for a pure kind, over the nodes of expressions
 abbrev pub KindFor : List ArithNode → List TestNode → Kind → PureKind → Type 0

@@ -1,5 +1,5 @@
 -- What the readers of statements owe to those that call them. Assumes nothing.
-use Rattle.std.specs.Prelude.{◌≡◌, ℕ, ◌+◌, Bool, List, [], ◌∷◌, ◌++◌}
+use Rattle.std.specs.Prelude.{◌≡◌, ℕ, ◌+◌, Bool, List, ◌++◌}
 use Rattle.grammar.specs.Answers.{fault}
 use Rattle.model.specs.declared.refusal.Cause.{Cause}
 use Rattle.text.specs.declared.word.Word.{Word}

@@ -1,17 +1,15 @@
 -- What the reader of a whole program answers, and the program that is made of it. Assumes nothing.
-use Rattle.std.specs.Prelude.{◌≡◌, ℕ, ◌≤◌, List, [], ◌∷◌, map, length, None, vec_items, vec_len, vec_capacity, Option, Vec}
+use Rattle.std.specs.Prelude.{◌≡◌, ◌≤◌, List, map, length, None, vec_items, Option}
 use Rattle.grammar.specs.Answers.{good as faultless}
 use Rattle.text.specs.declared.word.Word.{Word}
 use Rattle.text.specs.Table.{program_start}
 use Rattle.text.specs.Charges.{Memo, program_memo}
 use Rattle.text.specs.Reading.{reads}
-use Rattle.traces.specs.declared.range.Range.{Range}
 use Rattle.traces.specs.Programs.{Part, size, range}
 use Rattle.traces.specs.Tables.{table}
 use Rattle.traces.specs.Codes.{settings}
 use Rattle.traces.proofs.Links.{drafts}
 use Rattle.machine.specs.declared.program.Program.{Program}
-use Rattle.machine.specs.declared.statement.Statement.{Statement}
 use Rattle.machine.specs.Cells.{instructions}
 use Rattle.syntax.specs.Phrases.{Bounds, Derives, Ranged}
 use Rattle.program.specs.declared.board.Board.{Board}

@@ -1,14 +1,14 @@
 -- The automaton's states permit what the words permit: the meaning of a sheet as a watch. Assumes nothing.
-use Rattle.std.proofs.Common.{◌≡◌, ℕ, zero, suc, ◌+◌, ◌<◌, Bool, true, false, cond, eqb, ◌⊎◌, List, [], ◌∷◌, ◌++◌, length, get_or, replicate, Some, None, Option, sym, refl, ap, ◌∙◌, subst, inl, inr, append_assoc, append-nil, arith}
+use Rattle.std.proofs.Common.{◌≡◌, ℕ, zero, suc, true, eqb, List, [], ◌∷◌, ◌++◌, length, get_or, replicate, Some, None, Option, sym, refl, ap, ◌∙◌, subst, inl, inr, append_assoc, arith}
 use Rattle.std.proofs.lemmas.Bool.{eqb-true, cases_Bool, eqb-false, cond-true, cond-false}
 use Rattle.model.specs.declared.moment.Moment.{Moment}
 use Rattle.model.specs.Watches.{WatchMeaning}
 use Rattle.regular.specs.declared.positions.Positions.{Positions}
 use Rattle.regular.specs.declared.positions.Positions.TheVariants.{Start, After}
-use Rattle.regular.specs.Words.{Regex, size, Word, holding, InTurn, Permits, Continues, LastOf}
+use Rattle.regular.specs.Words.{Regex, size, Word, holding, InTurn, Continues}
 use Rattle.regular.specs.Sets.{Has, keep}
-use Rattle.regular.specs.Automaton.{follow_sets, nexts, state_of, step, allows, Steps, Tells, FollowsWords}
-use Rattle.regular.proofs.Paths.{First, Follow, Last, Path, Leads, Within, first_within, follow_within, to_path, from_path, some_word, ending, through, suffix}
+use Rattle.regular.specs.Automaton.{follow_sets, nexts, state_of, step, allows}
+use Rattle.regular.proofs.Paths.{First, Follow, Leads, Within, first_within, follow_within, to_path, from_path, some_word, ending, through, suffix}
 use Rattle.regular.proofs.Members.{has_zero, gather_to, gather_from, keep_to, keep_from, keep_some, firsts_to, firsts_from, follows_to, follows_new}
 
 -- j can come next

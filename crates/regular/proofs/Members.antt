@@ -1,9 +1,9 @@
 -- Which places the automaton's sets have: the bits at their one border. Assumes nothing.
-use Rattle.std.proofs.Common.{◌≡◌, ℕ, zero, suc, ◌+◌, ◌-◌, ◌*◌, ◌/◌, ◌%◌, ◌^◌, ◌<◌, ◌≤◌, max, Bool, true, false, cond, ◌&&◌, eqb, ◌≢◌, ◌⊎◌, List, [], ◌∷◌, length, get_or, set, replicate, sym, refl, ap, ◌∙◌, subst, inl, inr, pow-suc, arith, length-set, get_or-set_other, get_or-set_same}
-use native.Mathlib.Nat.{mul-mod_left, div_self, zero-div, max-zero, zero-max}
+use Rattle.std.proofs.Common.{◌≡◌, ℕ, zero, suc, ◌+◌, ◌-◌, ◌/◌, ◌%◌, ◌^◌, ◌<◌, ◌≤◌, max, Bool, true, false, cond, ◌&&◌, ◌⊎◌, List, [], ◌∷◌, length, get_or, set, sym, refl, ap, ◌∙◌, subst, inl, inr, pow-suc, arith, length-set, get_or-set_other, get_or-set_same}
+use native.Mathlib.Nat.{mul-mod_left, div_self, zero-div, zero-max}
 use lib.Bits.{bit_or, or_step, or_shr}
 use Rattle.std.proofs.lemmas.Nat.{pow_pos, pow-add, shl-shr, mod-mul-add, mod_below, div_below, pow_below}
-use Rattle.std.proofs.lemmas.Bool.{eqb-true, eq-eqb, cases_order, cases_Bool, cases_eq, cases_lt, false≢true, and_parts, and_from, both_ways}
+use Rattle.std.proofs.lemmas.Bool.{eqb-true, eq-eqb, cases_order, cases_Bool, cases_eq, cases_lt, false≢true, and_parts, and_from}
 use Rattle.regular.specs.Words.{Regex, empty, one, sequence, alternative, star, plus, size}
 use Rattle.regular.specs.Sets.{has, Has, with, gather, keep, gain}
 use Rattle.regular.specs.Automaton.{nullable, firsts, lasts, follows}

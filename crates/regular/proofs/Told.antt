@@ -3,10 +3,10 @@ use Rattle.std.proofs.Common.{◌≡◌, ℕ, Bool, true, ◌⊎◌, List, [], �
 use Rattle.model.specs.declared.moment.Moment.{Moment}
 use Rattle.regular.specs.declared.positions.Positions.{Positions}
 use Rattle.regular.specs.declared.positions.Positions.TheVariants.{Start, After}
-use Rattle.regular.specs.Words.{Regex, Word, holding, InTurn, Permits, LastOf}
+use Rattle.regular.specs.Words.{Regex, Word, holding, InTurn, LastOf}
 use Rattle.regular.specs.Sets.{Has}
 use Rattle.regular.specs.Automaton.{step, allows, Steps, Tells, FollowsWords}
-use Rattle.regular.proofs.Paths.{First, Follow, Last, Path, Leads, Starts, to_path, from_path, ending, suffix}
+use Rattle.regular.proofs.Paths.{Follow, Last, Path, Leads, to_path, from_path, ending, suffix}
 use Rattle.regular.proofs.Meaning.{Comes, kept, kept_to, kept_from, comes_within, state_some, goes, stops, nothing}
 
 -- another path may come behind a place of a path

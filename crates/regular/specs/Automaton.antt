@@ -1,5 +1,5 @@
 -- The position automaton of an expression, with sets of places as numbers. Assumes nothing.
-use Rattle.std.specs.Prelude.{◌≡◌, ℕ, zero, suc, ◌+◌, ◌^◌, Bool, true, false, cond, ◌&&◌, ◌||◌, ◌⊎◌, List, [], ◌∷◌, length, replicate, Some, None, Option, ◌==◌, ◌≢◌, bit_or}
+use Rattle.std.specs.Prelude.{◌≡◌, ℕ, ◌+◌, ◌^◌, Bool, true, false, cond, ◌&&◌, ◌||◌, ◌⊎◌, List, [], ◌∷◌, length, replicate, Some, None, Option, ◌==◌, ◌≢◌, bit_or}
 use Rattle.model.specs.declared.moment.Moment.{Moment}
 use Rattle.regular.specs.declared.positions.Positions.{Positions}
 use Rattle.regular.specs.declared.positions.Positions.TheVariants.{Start, After}

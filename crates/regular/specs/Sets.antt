@@ -1,5 +1,5 @@
 -- Sets of small numbers, as places and labels, in one number: i is in the set where bit i is 1. Assumes nothing.
-use Rattle.std.specs.Prelude.{◌≡◌, ℕ, zero, suc, ◌/◌, ◌%◌, ◌^◌, Bool, true, cond, ◌&&◌, List, set, ◌==◌, bit_or, slice_index, slice_set}
+use Rattle.std.specs.Prelude.{◌≡◌, ℕ, zero, suc, ◌/◌, ◌%◌, ◌^◌, Bool, true, cond, ◌&&◌, List, ◌==◌, bit_or, slice_index, slice_set}
 
 -- whether i is in the set
 abbrev pub has : ℕ → ℕ → Bool

@@ -4,15 +4,13 @@ use Rattle.grammar.specs.Answers.{Answer, good, fault}
 use Rattle.grammar.proofs.Meaning.{reading_stands}
 use Rattle.model.specs.declared.refusal.Cause.{Cause}
 use Rattle.model.specs.declared.refusal.Layer.TheVariants.{Sheet as SheetLayer}
-use Rattle.model.specs.declared.refusal.Refusal.{Refusal}
 use Rattle.text.specs.declared.reading.Fault.{Fault}
 use Rattle.text.specs.declared.word.Word.{Word}
 use Rattle.lexing.specs.Lexing.{words}
 use Rattle.text.specs.Table.{Item, Role, table, sheet_start, expression}
 use Rattle.text.specs.Charges.{Memo, causes, open_memo}
-use Rattle.text.specs.Reading.{reads, place_of}
+use Rattle.text.specs.Reading.{reads}
 use Rattle.text.proofs.Closed.{closable, sheet_lawful}
-use Rattle.regular.specs.Words.{Regex}
 use Rattle.regular.proofs.Told.{follows_words}
 use Rattle.sheet.specs.declared.sheet.Sheet.{Sheet}
 use Rattle.sheet.specs.declared.draft.Draft.{Draft}

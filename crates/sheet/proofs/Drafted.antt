@@ -1,18 +1,17 @@
 -- What has been laid down in a draft, put together from its parts. Assumes nothing.
-use Rattle.std.proofs.Common.{◌≡◌, ℕ, suc, ◌+◌, ◌*◌, ◌≤◌, true, List, [], ◌∷◌, ◌++◌, length, vec_items, vec_len, sym, refl, ap, ◌∙◌, subst, append_assoc, append-nil, arith}
+use Rattle.std.proofs.Common.{◌≡◌, ℕ, suc, ◌+◌, List, [], ◌∷◌, ◌++◌, vec_items, vec_len, sym, refl, ap, ◌∙◌, subst, append_assoc, append-nil, arith}
 use Rattle.text.specs.declared.expressions.Expressions.{Expressions}
 use Rattle.text.specs.declared.node.ArithNode.{ArithNode}
 use Rattle.text.specs.declared.node.TestNode.{TestNode}
-use Rattle.text.specs.Nodes.{TestAt}
 use Rattle.text.proofs.Stands.{test_more}
-use Rattle.regular.specs.Words.{Regex, empty, one, sequence, alternative, star, plus, size, Assertion, assertions}
+use Rattle.regular.specs.Words.{Regex, empty, sequence, alternative, star, plus, size, Assertion, assertions}
 use Rattle.sheet.specs.declared.tree.Node.{Node}
-use Rattle.sheet.specs.declared.tree.Node.TheVariants.{Empty, One, Sequence, Alternative, Star, Plus}
+use Rattle.sheet.specs.declared.tree.Node.TheVariants.{Empty, Sequence, Alternative, Star, Plus}
 use Rattle.sheet.specs.declared.tree.Leaf.{Leaf}
 use Rattle.sheet.specs.declared.tree.Leaf.TheVariants.{Given, Anything}
 use Rattle.sheet.specs.declared.draft.Draft.{Draft}
 use Rattle.sheet.specs.Flat.{below, laid}
-use Rattle.sheet.specs.Drafts.{SameParts, Pushed, Asserted, Is, Stand, Grown, Slim, Drawn}
+use Rattle.sheet.specs.Drafts.{SameParts, Pushed, Is, Stand, Grown, Slim, Drawn}
 
 is_more : (ns xs : List ArithNode) (ts ys : List TestNode) (l : Leaf) (a : Assertion) → Is ns ts l a → Is (ns ++ xs) (ts ++ ys) l a
 is_more ns xs ts ys (Given l i) a h = (h.0, test_more ns xs ts ys i a.test h.1)

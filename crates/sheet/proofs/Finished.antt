@@ -1,8 +1,8 @@
 -- The parts of a sheet in which an expression lies fit together. Assumes nothing.
-use Rattle.std.proofs.Common.{◌≡◌, ℕ, suc, ◌+◌, ◌-◌, ◌*◌, ◌≤◌, List, [], ◌∷◌, ◌++◌, map, length, get_or, replicate, vec_items, vec_len, sym, refl, ap, ◌∙◌, subst, arith}
+use Rattle.std.proofs.Common.{◌≡◌, ℕ, ◌-◌, List, [], ◌++◌, length, get_or, replicate, vec_items, vec_len, sym, ap, ◌∙◌, subst, arith}
 use Rattle.text.specs.declared.node.ArithNode.{ArithNode}
 use Rattle.text.specs.declared.node.TestNode.{TestNode}
-use Rattle.regular.specs.Words.{Regex, size, Assertion, assertions}
+use Rattle.regular.specs.Words.{Regex, size, assertions}
 use Rattle.regular.specs.Automaton.{firsts, follow_sets}
 use Rattle.sheet.specs.declared.tree.Node.{Node}
 use Rattle.sheet.specs.declared.tree.Leaf.{Leaf}
@@ -10,8 +10,8 @@ use Rattle.sheet.specs.declared.tree.Summary.{Summary}
 use Rattle.sheet.specs.declared.draft.Draft.{Draft}
 use Rattle.sheet.specs.Flat.{below, laid}
 use Rattle.sheet.specs.Passes.{nothing, all_summaries, links}
-use Rattle.sheet.specs.Parts.{assertion_of, sheet_tree, Standing}
-use Rattle.sheet.specs.Drafts.{Stand, Grown, Fresh, LaidDown}
+use Rattle.sheet.specs.Parts.{sheet_tree, Standing}
+use Rattle.sheet.specs.Drafts.{Stand, Grown, LaidDown}
 use Rattle.sheet.proofs.Laying.{laid_length, laid_sum, laid_links}
 use Rattle.sheet.proofs.Regrown.{sheet_tree_laid, stand_map, stand_tested}
 use Rattle.text.proofs.Lists.{empty_list}

@@ -1,28 +1,25 @@
 -- One word of a sheet, as the table reads it, in the forms that the proofs of the readers use. Assumes nothing.
-use Rattle.std.proofs.Common.{◌≡◌, ℕ, suc, ◌+◌, ◌-◌, ◌<◌, ◌≤◌, Bool, true, false, cond, ◌&&◌, eqb, ltb, ◌⊎◌, List, [], ◌∷◌, ◌++◌, vec_items, vec_len, sym, refl, ap, ◌∙◌, subst, inl, inr, arith, lit≤, le-ltb, lt-ltb}
-use borrow.Author.Tests.{clash}
-use Rattle.grammar.specs.Grammars.{Rule, Step, stuck, takes, find, Quiet}
-use Rattle.grammar.specs.Answers.{next, feed, leaves, Charge, fine, charged, Answer, good, fault, stepping, reading}
-use Rattle.grammar.proofs.Steps.{feed_takes, reading_takes, reading_charged, reading_stuck, reading_ended, reading_good, reading_without}
+use Rattle.std.proofs.Common.{◌≡◌, ℕ, suc, ◌<◌, ◌≤◌, List, [], ◌∷◌, ◌++◌, vec_len, sym, refl, ap, ◌∙◌, subst, inl, inr, arith, lit≤, le-ltb, lt-ltb}
+use Rattle.grammar.specs.Grammars.{stuck, takes, find, Quiet}
+use Rattle.grammar.specs.Answers.{feed, fine, charged, good, fault, stepping, reading}
+use Rattle.grammar.proofs.Steps.{feed_takes, reading_stuck, reading_good}
 use Rattle.grammar.proofs.Trees.{find_later}
-use Rattle.model.specs.declared.refusal.Cause.{Cause}
-use Rattle.model.specs.declared.refusal.Cause.TheVariants.{Unexpected, Many, Deep, Number as Numbered}
+use Rattle.model.specs.declared.refusal.Cause.TheVariants.{Many, Deep, Number as Numbered}
 use Rattle.text.specs.declared.word.Token.{Token}
-use Rattle.text.specs.declared.word.Token.TheVariants.{Number, Empty, Rest, OpenParen, CloseParen, OpenBracket, CloseBracket, Plus, Colon, Question, Bar, Star, Comma}
+use Rattle.text.specs.declared.word.Token.TheVariants.{Number, Empty, Rest, OpenParen, CloseParen, OpenBracket, Question, Bar, Comma}
 use Rattle.text.specs.declared.word.Word.{Word}
-use Rattle.text.specs.declared.word.Scope.TheVariants.{Every}
-use Rattle.text.specs.Words.{kind, at, a_number, amount}
-use Rattle.text.specs.Table.{Role, plain, sheet_sign, asserts, asserts_label, labels, Item, one_test, joined, close_bracket, bracketed, unit, repeats, more_labels, label, colon, group, expression, rules_of, optional, table, Line, line, unit_lines}
-use Rattle.text.specs.Charges.{Memo, causes, charge, when, deep, one_part, one_sign, counting, with_parts, with_signs, opens, open_in}
+use Rattle.text.specs.Words.{at, a_number, amount}
+use Rattle.text.specs.Table.{Role, plain, sheet_sign, asserts, asserts_label, labels, Item, one_test, joined, close_bracket, bracketed, unit, repeats, more_labels, label, colon, group, expression, rules_of, table, line, unit_lines}
+use Rattle.text.specs.Charges.{Memo, causes, when, deep, one_part, one_sign, counting, with_parts, with_signs, open_in}
 use Rattle.text.specs.Derivations.{Free}
 use Rattle.text.specs.Reading.{reads, cause_of, Skipped, Unlike}
-use Rattle.text.proofs.Tests.{of_kind, is_token, other_kind, no_number}
+use Rattle.text.proofs.Tests.{is_token, other_kind, no_number}
 use Rattle.text.proofs.Derived.{find_at}
 use Rattle.text.proofs.Going.{takes_word, charges_word, refuses, leaves_out, not_deep, too_deep}
 use Rattle.sheet.specs.declared.draft.Draft.{Draft}
 use Rattle.sheet.specs.Texts.{NoItem}
-use Rattle.sheet.specs.Owed.{Here, Now, noted, Goes, Stops, Tail, RowGoes, RowStops, ItemWord, at_empty, at_open, at_question, at_number}
-use Rattle.sheet.proofs.Tabled.{Opens, Loop, unit_opens, group_loop, expression_loop, quiet_repeats}
+use Rattle.sheet.specs.Owed.{Here, Now, noted, Tail, ItemWord, at_empty, at_open, at_question, at_number}
+use Rattle.sheet.proofs.Tabled.{Loop, group_loop, expression_loop}
 
 pub tail_loop : (z : Item) → Tail z → Loop z
 tail_loop z (inl e) = subst Loop (sym e) group_loop

@@ -1,5 +1,5 @@
 -- The tree that stands at an index is the one that grows there. Assumes nothing.
-use Rattle.std.proofs.Common.{◌≡◌, ℕ, zero, suc, ◌+◌, ◌<◌, ◌≤◌, List, [], ◌∷◌, ◌++◌, length, get_or, Some, None, Option, sym, refl, ap, ◌∙◌, subst, arith}
+use Rattle.std.proofs.Common.{◌≡◌, ℕ, zero, suc, ◌+◌, ◌<◌, List, [], ◌∷◌, ◌++◌, length, get_or, Some, sym, refl, ap, ◌∙◌, arith}
 use Rattle.std.proofs.lemmas.List.{get_or_append_left, get_or_push, length_push}
 use Rattle.model.specs.Cells.{at}
 use Rattle.text.specs.declared.node.ArithNode.{ArithNode}
@@ -7,7 +7,7 @@ use Rattle.text.specs.declared.node.ArithNode.TheVariants.{Number, Current, Init
 use Rattle.text.specs.declared.node.TestNode.{TestNode}
 use Rattle.text.specs.declared.node.TestNode.TheVariants.{Always, Less, AtMost, Equal, Both, Either, NotBoth}
 use Rattle.text.specs.Expressions.{Arith, number, current, initial, plus, minus, Test, always, less, at_most, equal, both, either, not_both}
-use Rattle.text.specs.Nodes.{nodes, ArithAt, TestAt}
+use Rattle.text.specs.Nodes.{ArithAt, TestAt}
 use Rattle.sheet.specs.Parts.{grown, arith as arith_node, test, test_of}
 
 module _ {N T : Type 0} (build : List T → N → T) (d : T) where

@@ -1,41 +1,36 @@
 -- What the readers of an assertion and of a sign have read. Assumes nothing.
-use Rattle.std.proofs.Common.{◌≡◌, ℕ, suc, ◌+◌, ◌-◌, ◌*◌, ◌<◌, ◌≤◌, ◌⊎◌, List, [], ◌∷◌, ◌++◌, length, vec_items, vec_len, Result, sym, refl, ap, ◌∙◌, subst, inl, inr, append_assoc, append-nil, arith, lit≤, MatchResult}
-use Rattle.std.proofs.lemmas.Result.{MatchResult-weaker}
+use Rattle.std.proofs.Common.{◌≡◌, ℕ, suc, ◌<◌, ◌≤◌, List, [], ◌∷◌, ◌++◌, vec_items, vec_len, sym, refl, ap, ◌∙◌, subst, arith, lit≤}
 use Rattle.grammar.specs.Grammars.{Quiet}
-use Rattle.grammar.specs.Answers.{fault, good}
 use Rattle.model.specs.declared.refusal.Cause.{Cause}
-use Rattle.model.specs.declared.refusal.Cause.TheVariants.{Many, Deep, Number as Numbered}
+use Rattle.model.specs.declared.refusal.Cause.TheVariants.{Many, Number as Numbered}
 use Rattle.text.specs.declared.expressions.Expressions.{Expressions}
 use Rattle.text.specs.declared.reading.Fault.{Fault}
-use Rattle.text.specs.declared.word.Token.{Token}
-use Rattle.text.specs.declared.word.Token.TheVariants.{Number, Empty, Rest, OpenParen, CloseParen, OpenBracket, CloseBracket, Plus, Colon, Question, Bar, Star, Comma}
+use Rattle.text.specs.declared.word.Token.TheVariants.{Number, Empty, OpenBracket, CloseBracket, Colon, Question, Comma}
 use Rattle.text.specs.declared.word.Word.{Word}
 use Rattle.text.specs.declared.word.Scope.TheVariants.{Every}
-use Rattle.text.specs.Expressions.{Test}
 use Rattle.text.specs.Nodes.{TestAt}
 use Rattle.text.specs.Derivations.{Free, Condition}
 use Rattle.text.specs.LabelSets.{every, these, MoreLabels, no_comma, comma, Labels as Labelling, question, numbers}
-use Rattle.text.specs.Table.{Item, bracketed, unit, repeats, more_labels, label, colon, one_test, joined, rules_of, optional}
-use Rattle.text.specs.Charges.{Memo, open_in, counting, with_parts, with_signs}
-use Rattle.text.specs.Reading.{reads, place_of, cause_of, FaultAt, Skipped, Unlike, Here as HereText, Goes as GoesText}
+use Rattle.text.specs.Table.{Item, bracketed, unit, more_labels, label, colon, one_test, joined, rules_of}
+use Rattle.text.specs.Charges.{Memo, counting, with_parts, with_signs}
+use Rattle.text.specs.Reading.{reads, place_of, cause_of, FaultAt, Skipped, Unlike, Goes as GoesText}
 use Rattle.text.specs.Outcomes.{TestRead, Stopped as TestStopped}
 use Rattle.text.proofs.Tests.{is_token}
 use Rattle.text.proofs.Derived.{quiet_labels}
 use Rattle.text.proofs.Going.{refuses, leaves_out, sign_goes, sign_stops}
-use Rattle.regular.specs.Words.{Regex, empty, one}
+use Rattle.regular.specs.Words.{empty, one}
 use Rattle.regular.specs.Sets.{with}
 use Rattle.sheet.specs.declared.tree.Node.TheVariants.{One, Empty as EmptyNode}
 use Rattle.sheet.specs.declared.tree.Labels.{Labels}
 use Rattle.sheet.specs.declared.tree.Labels.TheVariants.{All, Among}
 use Rattle.sheet.specs.declared.tree.Leaf.{Leaf}
-use Rattle.sheet.specs.declared.tree.Leaf.TheVariants.{Given, Anything}
+use Rattle.sheet.specs.declared.tree.Leaf.TheVariants.{Given}
 use Rattle.sheet.specs.declared.draft.Draft.{Draft}
-use Rattle.sheet.specs.Flat.{below, laid}
 use Rattle.sheet.specs.Parts.{labels_of}
-use Rattle.sheet.specs.Texts.{collected, marked, Derives, item, is_empty, asserted}
-use Rattle.sheet.specs.Drafts.{SameParts, Pushed, Asserted, Stand, Grown, Slim, Drawn}
-use Rattle.sheet.specs.Owed.{Here, Now, noted, Goes, Stops, Stopped, LabelsRead, LabelsStop, Bracketed, TestedRead, TestedStops, UnitRead}
-use Rattle.sheet.proofs.Going.{noted_here, noted_same, sign_goes as sign_goes_at, sign_stops as sign_stops_at, comma_goes, label_goes, label_large, quiet_label, part_goes, part_stops, number_goes, number_large, number_many}
+use Rattle.sheet.specs.Texts.{marked, is_empty, asserted}
+use Rattle.sheet.specs.Drafts.{SameParts, Pushed, Asserted, Grown, Drawn}
+use Rattle.sheet.specs.Owed.{Here, Now, noted, Stops, Stopped, LabelsRead, LabelsStop, Bracketed, TestedRead, TestedStops, UnitRead}
+use Rattle.sheet.proofs.Going.{sign_goes as sign_goes_at, sign_stops as sign_stops_at, comma_goes, label_goes, label_large, part_goes, part_stops, number_goes, number_large, number_many}
 use Rattle.sheet.proofs.Drafted.{grown_empty}
 
 pub stopped_by : (S : Cause → List Word → Type 0) (end : ℕ) (f : Fault) (c : Cause) (v : List Word) → f.cause ≡ c → f.place ≡ place_of end v → S c v → Stopped S end f

@@ -1,9 +1,9 @@
 -- What the pass comes to, and which tree stands there, where a tree is laid down behind other nodes. Assumes nothing.
-use Rattle.std.proofs.Common.{◌≡◌, ℕ, zero, suc, ◌+◌, ◌-◌, ◌^◌, ◌<◌, ◌≤◌, Bool, true, false, List, [], ◌∷◌, ◌++◌, length, get_or, replicate, sym, refl, ap, ◌∙◌, subst, append_assoc, append-nil, arith, length-append}
+use Rattle.std.proofs.Common.{◌≡◌, ℕ, suc, ◌+◌, ◌≤◌, true, List, [], ◌∷◌, ◌++◌, length, get_or, sym, refl, ap, ◌∙◌, append_assoc, append-nil, arith, length-append}
 use Rattle.std.proofs.lemmas.List.{get_or_append_left, get_or-append-add, get_or_push, length_push}
 use Rattle.std.specs.List.{AllByRecursion as All}
 use Rattle.std.proofs.ByRecursion.{All-append}
-use Rattle.regular.specs.Words.{Regex, empty, one, sequence, alternative, star, plus, size, Assertion, assertions}
+use Rattle.regular.specs.Words.{Regex, empty, one, sequence, alternative, star, plus, size}
 use Rattle.regular.specs.Automaton.{nullable, firsts, lasts, follows}
 use Rattle.regular.specs.Sets.{gain}
 use Rattle.regular.proofs.Members.{follows_length}
@@ -11,7 +11,7 @@ use Rattle.sheet.specs.declared.tree.Node.{Node}
 use Rattle.sheet.specs.declared.tree.Node.TheVariants.{Empty, One, Sequence, Alternative, Star, Plus}
 use Rattle.sheet.specs.declared.tree.Summary.{Summary}
 use Rattle.sheet.specs.Passes.{nothing, summary, linked, all_summaries, links, of_sequence, of_alternative, Placed}
-use Rattle.sheet.specs.Flat.{any, build, grow, tree, below, laid}
+use Rattle.sheet.specs.Flat.{below, laid}
 
 -- the summary of a tree, as the automaton has it
 abbrev pub sum : Regex → ℕ → Summary

@@ -1,7 +1,7 @@
 -- What the table reads of a sheet is what its words derive. Assumes nothing.
-use Rattle.std.proofs.Common.{◌≡◌, ℕ, ◌≤◌, Bool, true, false, cond, eqb, ◌⊎◌, List, [], ◌∷◌, ◌++◌, Some, None, Option, sym, refl, ap, ◌∙◌, subst, inl, inr, lit≤}
+use Rattle.std.proofs.Common.{◌≡◌, ℕ, ◌≤◌, true, false, eqb, ◌⊎◌, List, [], ◌∷◌, Some, None, Option, sym, refl, ap, ◌∙◌, subst, inl, inr, lit≤}
 use borrow.Author.Tests.{clash}
-use Rattle.grammar.specs.Grammars.{Rule, Step, stuck, takes, find, Quiet, Reads, nothing, took, without, Text}
+use Rattle.grammar.specs.Grammars.{takes, find, Quiet, Text}
 use Rattle.grammar.specs.Answers.{SameTexts}
 use Rattle.grammar.proofs.Steps.{clash_step}
 use Rattle.grammar.proofs.Trees.{Means}
@@ -10,13 +10,13 @@ use Rattle.text.specs.declared.word.Token.TheVariants.{Number, Empty, Rest, Open
 use Rattle.text.specs.declared.word.Word.{Word}
 use Rattle.text.specs.Words.{kind, at, a_number}
 use Rattle.text.specs.Expressions.{Test}
-use Rattle.text.specs.Table.{Role, plain, sheet_sign, asserts, asserts_label, labels, Item, operand, more, one_test, joined, comparison, close_paren, close_bracket, bracketed, semicolon, becomes, sensed, guard, statement, other, end_if, end_while, block, statements, declarations, declared_letter, bound, bare_bound, close_declaration, unit, repeats, more_labels, label, label_set, colon, group, expression, target, edges, rules_of, optional, table, Line, line, unit_lines, sheet_start}
-use Rattle.text.specs.Derivations.{NoneOf, Free, Condition}
-use Rattle.text.specs.LabelSets.{LabelSet, every, these, MoreLabels, Labels, question, numbers}
+use Rattle.text.specs.Table.{Role, plain, sheet_sign, asserts, asserts_label, Item, operand, more, one_test, joined, comparison, close_paren, close_bracket, bracketed, semicolon, becomes, sensed, guard, statement, other, end_if, end_while, block, statements, declarations, declared_letter, bound, bare_bound, close_declaration, unit, repeats, more_labels, label, label_set, colon, group, expression, target, edges, rules_of, optional, table, Line, line, unit_lines, sheet_start}
+use Rattle.text.specs.Derivations.{Free, Condition}
+use Rattle.text.specs.LabelSets.{LabelSet, every, these, Labels, question, numbers}
 use Rattle.text.proofs.Tests.{of_kind, is_token, is_number, kinds_differ}
 use Rattle.text.proofs.Shared.{Sign, Within, Mean, shared, stands_for, split, Split, shut_out}
 use Rattle.regular.specs.Words.{Regex, empty, one, sequence, alternative, star, plus, with_rest}
-use Rattle.sheet.specs.Texts.{marked, NoItem, Part, item, repeated, row, onto, choice, or_else, Derives, is_empty, in_parens, asserted, not_repeated, starred, plussed, in_a_row, row_ends, next_in_row, chosen, no_bar, barred, SheetText, strict, rested}
+use Rattle.sheet.specs.Texts.{marked, NoItem, item, repeated, onto, choice, or_else, Derives, is_empty, in_parens, asserted, not_repeated, starred, plussed, in_a_row, row_ends, next_in_row, chosen, no_bar, barred, strict, rested}
 use Rattle.sheet.specs.Answered.{IsSheet}
 use Rattle.sheet.proofs.Tabled.{sheet_reads}
 

@@ -1,18 +1,16 @@
 -- A tree that is laid down grows again from its nodes. Assumes nothing.
-use Rattle.std.proofs.Common.{◌≡◌, ℕ, zero, suc, ◌+◌, ◌-◌, ◌<◌, ◌≤◌, List, [], ◌∷◌, ◌++◌, map, length, get_or, sym, refl, ap, ◌∙◌, subst, append_assoc, append-nil, add-zero, zero-add, arith, length-append}
-use Rattle.std.proofs.lemmas.List.{get_or_append_left, get_or-append-add, get_or_push, length_push}
+use Rattle.std.proofs.Common.{◌≡◌, ℕ, suc, ◌+◌, ◌-◌, ◌<◌, List, [], ◌∷◌, ◌++◌, map, length, get_or, sym, refl, ap, ◌∙◌, append_assoc, append-nil, add-zero, zero-add, arith}
+use Rattle.std.proofs.lemmas.List.{get_or_append_left, get_or_push, length_push}
 use Rattle.std.specs.List.{AllByRecursion as All}
 use Rattle.text.specs.declared.node.ArithNode.{ArithNode}
 use Rattle.text.specs.declared.node.TestNode.{TestNode}
-use Rattle.text.specs.Expressions.{Test}
-use Rattle.text.specs.Nodes.{TestAt}
-use Rattle.regular.specs.Words.{Regex, empty, one, sequence, alternative, star, plus, size, Labels, Assertion, assertions}
+use Rattle.regular.specs.Words.{Regex, empty, one, sequence, alternative, star, plus, size, Assertion, assertions}
 use Rattle.sheet.specs.declared.tree.Node.{Node}
-use Rattle.sheet.specs.declared.tree.Node.TheVariants.{Empty, One, Sequence, Alternative, Star, Plus}
+use Rattle.sheet.specs.declared.tree.Node.TheVariants.{Sequence, Alternative, Star, Plus}
 use Rattle.sheet.specs.declared.tree.Leaf.{Leaf}
 use Rattle.sheet.specs.declared.tree.Leaf.TheVariants.{Given, Anything}
 use Rattle.sheet.specs.Flat.{any, build, grow, tree, below, laid}
-use Rattle.sheet.specs.Parts.{test_of, labels_of, assertion_of, Tested, sheet_tree}
+use Rattle.sheet.specs.Parts.{assertion_of, Tested, sheet_tree}
 use Rattle.sheet.specs.Drafts.{Is, Stand}
 use Rattle.sheet.proofs.Laying.{only_at, left_at, right_at, regroup, both_length, apart, two_lengths, last_two, laid_length}
 use Rattle.sheet.proofs.Growing.{test_at}

@@ -1,31 +1,28 @@
 -- What the readers of items, rows and alternatives have read, put together from their parts. Assumes nothing.
-use Rattle.std.proofs.Common.{◌≡◌, ℕ, suc, ◌+◌, ◌-◌, ◌*◌, ◌<◌, ◌≤◌, ◌⊎◌, List, [], ◌∷◌, ◌++◌, length, vec_items, vec_len, sym, refl, ap, ◌∙◌, subst, inl, inr, append_assoc, append-nil, arith, lit≤}
-use Rattle.grammar.specs.Grammars.{Quiet}
-use Rattle.grammar.specs.Answers.{fault, good}
+use Rattle.std.proofs.Common.{◌≡◌, ℕ, suc, ◌-◌, ◌<◌, ◌≤◌, List, [], ◌∷◌, length, vec_len, sym, refl, ap, ◌∙◌, subst, inl, arith, lit≤}
 use Rattle.model.specs.declared.refusal.Cause.{Cause}
 use Rattle.model.specs.declared.refusal.Cause.TheVariants.{Many, Deep}
 use Rattle.text.specs.declared.expressions.Expressions.{Expressions}
 use Rattle.text.specs.declared.reading.Fault.{Fault}
-use Rattle.text.specs.declared.word.Token.{Token}
-use Rattle.text.specs.declared.word.Token.TheVariants.{Number, Empty, Rest, OpenParen, CloseParen, Plus, Bar, Star}
+use Rattle.text.specs.declared.word.Token.TheVariants.{OpenParen, CloseParen, Plus, Bar, Star}
 use Rattle.text.specs.declared.word.Word.{Word}
 use Rattle.text.specs.Expressions.{Test}
 use Rattle.text.specs.Derivations.{Free, Condition, condition}
 use Rattle.text.specs.LabelSets.{LabelSet, MoreLabels, no_comma, comma, Labels, question, numbers}
 use Rattle.text.proofs.Conditions.{tests_shorter}
-use Rattle.text.specs.Table.{Item, unit, repeats, group, expression, rules_of, optional}
+use Rattle.text.specs.Table.{Item, unit, repeats, group}
 use Rattle.text.specs.Charges.{Memo, open_in}
-use Rattle.text.specs.Reading.{reads, place_of, cause_of, FaultAt, Skipped, Unlike}
+use Rattle.text.specs.Reading.{reads, cause_of, FaultAt, Skipped, Unlike}
 use Rattle.text.proofs.Tests.{is_token}
 use Rattle.text.proofs.Going.{refuses, leaves_out}
-use Rattle.regular.specs.Words.{Regex, empty, one, sequence, alternative, star, plus, with_rest}
+use Rattle.regular.specs.Words.{Regex, sequence, alternative, star, plus}
 use Rattle.sheet.specs.declared.tree.Node.{Node}
 use Rattle.sheet.specs.declared.tree.Node.TheVariants.{Sequence, Alternative, Star as StarNode, Plus as PlusNode}
 use Rattle.sheet.specs.declared.draft.Draft.{Draft}
-use Rattle.sheet.specs.Texts.{NoItem, Part, Derives, is_empty, asserted, item, repeated, row, onto, choice, or_else, in_parens, not_repeated, starred, plussed, in_a_row, row_ends, next_in_row, chosen, no_bar, barred, SheetText, strict, rested}
-use Rattle.sheet.specs.Drafts.{SameParts, Pushed, Asserted, Grown, Slim, Drawn, Fresh}
-use Rattle.sheet.specs.Owed.{Here, Now, noted, Goes, Stops, Tail, RowGoes, RowStops, TailGoes, TailStops, Stopped, UnitRead, RepeatsRead, RepeatsStop, Noded, TooMany, ItemRead, ItemWord, ItemBegins, NextItem, RowRead, NextRow}
-use Rattle.sheet.proofs.Tabled.{Loop, quiet_repeats}
+use Rattle.sheet.specs.Texts.{NoItem, Part, Derives, is_empty, asserted, item, repeated, row, onto, choice, or_else, in_parens, not_repeated, starred, plussed, in_a_row, row_ends, next_in_row, chosen, no_bar, barred}
+use Rattle.sheet.specs.Drafts.{SameParts, Pushed, Drawn}
+use Rattle.sheet.specs.Owed.{Now, noted, Stops, Tail, RowStops, TailGoes, TailStops, Stopped, UnitRead, RepeatsRead, RepeatsStop, Noded, TooMany, ItemRead, ItemBegins, NextItem, RowRead, NextRow}
+use Rattle.sheet.proofs.Tabled.{quiet_repeats}
 use Rattle.sheet.proofs.Going.{tail_loop, noted_here, noted_same, sign_goes, sign_stops, quiet_unit, open_goes, open_deep, close_goes, close_stops, loop_item}
 use Rattle.sheet.proofs.Drafted.{drawn_star, drawn_plus, drawn_sequence, drawn_alternative, grown_signed}
 use Rattle.sheet.proofs.Items.{stopped_by, stopped_on}

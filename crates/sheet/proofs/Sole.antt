@@ -1,16 +1,16 @@
 -- The words of a sheet derive one expression. Assumes nothing.
-use Rattle.std.proofs.Common.{◌≡◌, ℕ, true, false, eqb, List, [], ◌∷◌, sym, refl, ap, ◌∙◌, subst, arith}
+use Rattle.std.proofs.Common.{◌≡◌, ℕ, false, eqb, List, ◌∷◌, sym, refl, ap, ◌∙◌, subst, arith}
 use Rattle.text.specs.declared.word.Token.{Token}
-use Rattle.text.specs.declared.word.Token.TheVariants.{Number, Empty, Rest, OpenParen, CloseParen, OpenBracket, CloseBracket, Plus, Colon, Question, Bar, Star, Comma}
+use Rattle.text.specs.declared.word.Token.TheVariants.{Number, Empty, OpenParen, Plus, Question, Star}
 use Rattle.text.specs.declared.word.Word.{Word}
 use Rattle.text.specs.Words.{kind}
 use Rattle.text.specs.Expressions.{Test}
-use Rattle.text.specs.Derivations.{Free, Condition}
-use Rattle.text.specs.LabelSets.{LabelSet, every, these, MoreLabels, no_comma, comma, Labels, question, numbers}
+use Rattle.text.specs.Derivations.{Condition}
+use Rattle.text.specs.LabelSets.{LabelSet, these, MoreLabels, no_comma, comma, Labels, question, numbers}
 use Rattle.text.proofs.Tests.{kinds_differ}
 use Rattle.text.proofs.Unique.{condition_one}
-use Rattle.regular.specs.Words.{Regex, one, sequence, alternative, star, plus, with_rest}
-use Rattle.sheet.specs.Texts.{marked, NoItem, Part, item, repeated, row, onto, choice, or_else, Derives, is_empty, in_parens, asserted, not_repeated, starred, plussed, in_a_row, row_ends, next_in_row, chosen, no_bar, barred, SheetText, strict, rested}
+use Rattle.regular.specs.Words.{Regex, one, sequence, alternative, with_rest}
+use Rattle.sheet.specs.Texts.{marked, NoItem, Part, item, repeated, onto, or_else, Derives, is_empty, in_parens, asserted, not_repeated, starred, plussed, in_a_row, row_ends, next_in_row, chosen, no_bar, barred, SheetText, strict, rested}
 
 -- a word of two kinds
 clash : {X : Type 0} {t : Token} (u v : Token) → eqb (kind u) (kind v) ≡ false → t ≡ u → t ≡ v → X

@@ -1,26 +1,24 @@
 -- What the readers of `rest` and of a whole sheet have read. Assumes nothing.
-use Rattle.std.proofs.Common.{◌≡◌, ℕ, suc, ◌+◌, ◌*◌, ◌<◌, ◌≤◌, ◌⊎◌, List, [], ◌∷◌, ◌++◌, length, vec_items, vec_len, sym, refl, ap, ◌∙◌, subst, inl, inr, arith}
+use Rattle.std.proofs.Common.{◌≡◌, ℕ, suc, ◌<◌, ◌≤◌, List, [], ◌∷◌, length, vec_len, sym, refl, ap, ◌∙◌, subst, inr, arith}
 use Rattle.grammar.specs.Answers.{fault, good}
 use Rattle.grammar.proofs.Steps.{reading_good}
-use Rattle.model.specs.declared.refusal.Cause.{Cause}
 use Rattle.model.specs.declared.refusal.Cause.TheVariants.{Many}
 use Rattle.text.specs.declared.expressions.Expressions.{Expressions}
 use Rattle.text.specs.declared.reading.Fault.{Fault}
 use Rattle.text.specs.declared.word.Token.TheVariants.{Rest}
 use Rattle.text.specs.declared.word.Word.{Word}
-use Rattle.text.specs.Table.{Item, unit, repeats, expression, table}
+use Rattle.text.specs.Table.{unit, repeats, expression, table}
 use Rattle.text.specs.Charges.{Memo, causes, with_parts}
-use Rattle.text.specs.Reading.{reads, place_of, cause_of, FaultAt}
-use Rattle.regular.specs.Words.{Regex, one, star, sequence, with_rest}
-use Rattle.sheet.specs.declared.tree.Node.TheVariants.{One, Star, Sequence}
-use Rattle.sheet.specs.declared.tree.Leaf.{Leaf}
+use Rattle.text.specs.Reading.{reads, cause_of, FaultAt}
+use Rattle.regular.specs.Words.{one, star, with_rest}
+use Rattle.sheet.specs.declared.tree.Node.TheVariants.{Star, Sequence}
 use Rattle.sheet.specs.declared.tree.Leaf.TheVariants.{Anything}
 use Rattle.sheet.specs.declared.draft.Draft.{Draft}
 use Rattle.sheet.specs.Flat.{any}
-use Rattle.sheet.specs.Texts.{NoItem, Derives, choice, SheetText, strict, rested}
+use Rattle.sheet.specs.Texts.{NoItem, Derives, choice, strict, rested}
 use Rattle.sheet.specs.Drafts.{Pushed, Asserted, Grown}
 use Rattle.sheet.specs.Owed.{Now, noted, RowStops, Stopped, RowRead, RestRead, RestStops, WholeRead, WholeStops}
-use Rattle.sheet.proofs.Going.{noted_here, noted_same, as_counted, part_goes, part_stops, nothing_owed, end_good, end_stops}
+use Rattle.sheet.proofs.Going.{noted_here, as_counted, part_goes, part_stops, nothing_owed, end_good, end_stops}
 use Rattle.sheet.proofs.Drafted.{same_ariths, same_tests, grown_star, grown_sequence}
 use Rattle.sheet.proofs.Items.{stopped_by, stopped_on}
 use Rattle.sheet.proofs.Rows.{ended}

@@ -1,5 +1,5 @@
 -- What reading a sheet answers. Assumes nothing.
-use Rattle.std.specs.Prelude.{◌≡◌, ℕ, ◌<◌, ◌≤◌, ◌⊎◌, List, [], ◌∷◌, length, Ok, Err, Result}
+use Rattle.std.specs.Prelude.{◌≡◌, ℕ, ◌<◌, ◌≤◌, ◌⊎◌, List, length, Ok, Err, Result}
 use Rattle.grammar.specs.Answers.{Answer, good, fault, Deserved}
 use Rattle.model.specs.declared.refusal.Cause.{Cause}
 use Rattle.model.specs.declared.refusal.Cause.TheVariants.{Length}

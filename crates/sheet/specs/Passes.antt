@@ -1,5 +1,5 @@
 -- The one pass over the nodes that computes the position automaton. Assumes nothing.
-use Rattle.std.specs.Prelude.{◌≡◌, ℕ, ◌^◌, ◌<◌, ◌≤◌, Bool, true, false, cond, ◌&&◌, ◌||◌, List, [], ◌∷◌, ◌++◌, length, get_or, vec_items, vec_len, vec_capacity, Vec, bit_or, slice_index_or}
+use Rattle.std.specs.Prelude.{◌≡◌, ℕ, ◌^◌, ◌<◌, ◌≤◌, true, false, cond, ◌&&◌, ◌||◌, List, [], ◌∷◌, ◌++◌, length, get_or, vec_items, vec_len, vec_capacity, Vec, bit_or, slice_index_or}
 use Rattle.std.specs.List.{AllByRecursion as All}
 use Rattle.regular.specs.Sets.{gain}
 use Rattle.sheet.specs.declared.tree.Node.{Node}

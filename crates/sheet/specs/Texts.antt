@@ -1,6 +1,5 @@
 -- Which words are a sheet, and which expression they derive. Assumes nothing.
 use Rattle.std.specs.Prelude.{◌≡◌, ℕ, List, [], ◌∷◌, ◌≢◌}
-use Rattle.text.specs.declared.word.Token.{Token}
 use Rattle.text.specs.declared.word.Token.TheVariants.{Number, Empty, Rest, OpenParen, CloseParen, OpenBracket, CloseBracket, Plus, Colon, Question, Bar, Star}
 use Rattle.text.specs.declared.word.Word.{Word}
 use Rattle.text.specs.Expressions.{Test}

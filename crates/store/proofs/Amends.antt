@@ -1,5 +1,5 @@
 -- What a change at one place of a list leaves. Assumes nothing.
-use Rattle.std.proofs.Common.{◌≡◌, ℕ, zero, suc, ◌<◌, ◌≤◌, List, [], ◌∷◌, map, length, get_or, take, drop, set, sym, refl, ap, ◌∙◌, arith}
+use Rattle.std.proofs.Common.{◌≡◌, ℕ, zero, suc, ◌<◌, List, [], ◌∷◌, map, length, get_or, drop, set, refl, ap, arith}
 use Rattle.store.specs.Chains.{pick}
 use Rattle.store.specs.Steps.{amend}
 

@@ -1,13 +1,12 @@
 -- What entering one more record in the chains does to a table. Assumes nothing.
-use Rattle.std.proofs.Common.{◌≡◌, ℕ, zero, suc, ◌+◌, ◌*◌, ◌^◌, ◌<◌, ◌≤◌, min, cond, ltb, ◌⊎◌, List, [], ◌∷◌, ◌++◌, map, length, get_or, take, drop, set, sym, refl, ap, ◌∙◌, subst, inl, inr, add-one, arith}
+use Rattle.std.proofs.Common.{◌≡◌, ℕ, zero, suc, ◌+◌, ◌<◌, ◌≤◌, ltb, List, map, length, take, drop, set, sym, refl, ap, ◌∙◌, subst, inl, inr, add-one, arith}
 use Rattle.std.proofs.lemmas.Nat.{mod_below, pow_pos}
 use Rattle.std.proofs.lemmas.List.{take-map, take_more_set, map_push, length-map}
 use Rattle.std.proofs.lemmas.Bool.{cond_both, ltb-true, ltb-false, cases_eq}
 use Rattle.model.specs.Keys.{KeyMeaning}
 use Rattle.store.specs.declared.record.Record.{Record}
-use Rattle.store.specs.Calls.{Grown, places}
-use Rattle.model.specs.Entries.{Entry}
-use Rattle.store.specs.Entries.{entry, entries}
+use Rattle.store.specs.Calls.{Grown}
+use Rattle.store.specs.Entries.{entry}
 use Rattle.store.specs.Chains.{Buckets, Linked, Indexed, bucket_of, bucket_at, head_at, next_at}
 use Rattle.store.specs.Steps.{amend, with_head, with_next, cleared, linked, all_linked, entered}
 use Rattle.store.proofs.Amends.{put_amend, length_amend, drop_amend, map_amend, pick_kept, pick_here, pick_other, pick_below}

@@ -1,5 +1,5 @@
 -- What callers use of the store's definitions. Assumes nothing.
-use Rattle.std.proofs.Common.{◌≡◌, ℕ, zero, suc, ◌+◌, ◌*◌, ◌<◌, ◌≤◌, min, Bool, true, false, cond, ◌||◌, ◌⊎◌, List, [], ◌∷◌, ◌++◌, map, length, get_or, take, drop, is_some, Some, None, Option, sym, refl, ap, ◌∙◌, subst, inl, inr, arith}
+use Rattle.std.proofs.Common.{◌≡◌, ℕ, zero, suc, ◌+◌, ◌<◌, ◌≤◌, true, List, [], ◌∷◌, map, length, get_or, take, is_some, Some, None, Option, sym, refl, ap, ◌∙◌, subst, inl, inr, arith}
 use Rattle.std.proofs.lemmas.Nat.{pow_pos}
 use Rattle.std.proofs.lemmas.List.{length-map, length-take-le, take-map, take-take, take_at}
 use Rattle.std.proofs.lemmas.Bool.{or_cases, or_left, or_right, cases_Bool, true≢false}
@@ -7,7 +7,7 @@ use Rattle.model.specs.Cells.{In, at}
 use Rattle.model.specs.Keys.{KeyMeaning}
 use Rattle.store.specs.declared.record.Record.{Record}
 use Rattle.store.specs.Calls.{Grown, places}
-use Rattle.store.specs.Chains.{Buckets, Indexed, pick, bucket_of, bucket_at, head_at, next_at}
+use Rattle.store.specs.Chains.{Indexed, pick, bucket_of, bucket_at, head_at, next_at}
 use Rattle.model.specs.Entries.{Entry}
 use Rattle.store.specs.Entries.{entry, entries, keys, Found, known}
 use Rattle.store.proofs.Tops.{kept_chains}

@@ -1,12 +1,12 @@
 -- The walk along a chain finds every key of its bucket. Assumes nothing.
-use Rattle.std.proofs.Common.{◌≡◌, ℕ, zero, suc, ◌<◌, ◌≤◌, Bool, true, false, ◌⊎◌, List, [], ◌∷◌, map, length, get_or, take, Some, None, Option, sym, refl, ap, ◌∙◌, subst, inl, inr, arith}
+use Rattle.std.proofs.Common.{◌≡◌, ℕ, zero, suc, ◌<◌, ◌≤◌, true, false, List, [], ◌∷◌, length, get_or, Some, None, Option, sym, refl, ap, ◌∙◌, subst, inl, inr, arith}
 use Rattle.std.proofs.lemmas.Bool.{cases_order, both_ways}
 use Rattle.model.specs.Cells.{In, at}
 use Rattle.model.specs.Keys.{KeyMeaning}
 use Rattle.store.specs.declared.record.Record.{Record}
 use Rattle.store.specs.Entries.{entries, keys, Found}
-use Rattle.store.specs.Chains.{Buckets, Linked, Indexed, top, bucket_of, bucket_at, head_at, next_at}
-use Rattle.store.specs.Calls.{FoundSo, Holds}
+use Rattle.store.specs.Chains.{Buckets, Indexed, top, bucket_of, bucket_at, head_at, next_at}
+use Rattle.store.specs.Calls.{FoundSo}
 use Rattle.store.proofs.Amends.{pick_read}
 use Rattle.store.proofs.Tops.{top_le, top_above, top_again, top_hit, same_buckets}
 

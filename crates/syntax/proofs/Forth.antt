@@ -1,24 +1,22 @@
 -- From derivations of programs to the table. Assumes nothing.
-use Rattle.std.proofs.Common.{◌≡◌, ℕ, zero, suc, ◌+◌, ◌<◌, ◌≤◌, Bool, true, false, cond, eqb, ◌⊎◌, List, [], ◌∷◌, ◌++◌, set, ℤ, pos, ◌-ℤ◌, Some, None, Option, sym, refl, ap, ◌∙◌, subst, inl, inr, arith, lit≤}
-use borrow.Author.Tests.{clash}
-use Rattle.std.proofs.lemmas.Bool.{eqb-true, eq-eqb, ne_eqb}
-use Rattle.grammar.specs.Grammars.{Rule, Step, stuck, takes, find, Quiet, Reads, nothing, took, without}
-use Rattle.grammar.proofs.Steps.{joins, clash_step}
-use Rattle.grammar.proofs.Trees.{Means, find_here, find_later, by_lines, stuck_here}
+use Rattle.std.proofs.Common.{◌≡◌, ℕ, zero, suc, ◌≤◌, false, eqb, List, [], ◌∷◌, ◌++◌, ℤ, Option, sym, refl, ap, ◌∙◌, subst, inl, inr, arith, lit≤}
+use Rattle.grammar.specs.Grammars.{takes, find, Quiet, Reads, nothing, took, without}
+use Rattle.grammar.proofs.Steps.{joins}
+use Rattle.grammar.proofs.Trees.{find_later}
 use Rattle.text.specs.declared.word.Register.{Register}
 use Rattle.text.specs.declared.word.Register.TheVariants.{A as ra, B as rb, C as rc, D as rd, E as re, F as rf}
 use Rattle.text.specs.declared.word.Token.{Token}
-use Rattle.text.specs.declared.word.Token.TheVariants.{Number, Current, Initial, True, And, Or, Nand, Reg, Sense, If, Else, While, Break, Empty, Rest, Name, Semicolon, OpenParen, CloseParen, OpenBrace, CloseBrace, OpenBracket, CloseBracket, Less, AtMost, Equal, Set, Plus, Minus, Colon, Question, Comma, Bar, Star, Stray}
+use Rattle.text.specs.declared.word.Token.TheVariants.{Number, Current, Initial, Reg, Sense, If, Else, While, Break, Semicolon, OpenParen, CloseParen, OpenBrace, CloseBrace, Set, Minus}
 use Rattle.text.specs.declared.word.Word.{Word}
-use Rattle.text.specs.Words.{kind, at, letter, names, register_index}
-use Rattle.text.specs.Table.{Role, plain, labelled, set_register, sensed_register, breaks as breaks_role, declares, Item, operand, more, one_test, joined, comparison, close_paren, close_bracket, bracketed, semicolon, becomes, sensed, guard, statement, other, end_if, end_while, block, statements, declarations, declared_letter, bound, bare_bound, close_declaration, unit, repeats, more_labels, label, label_set, colon, group, expression, target, edges, rules_of, optional, table, Line, line, statement_lines, letter_lines, declares_register, following, program_start}
-use Rattle.text.specs.Expressions.{Arith, Test}
-use Rattle.text.specs.Derivations.{NoneOf, Free, SumPart, one as one_operand, onto, Sums, Sum, sum, one_of, onto_test, Tests, Condition, condition}
-use Rattle.text.proofs.Tests.{of_kind, is_token, is_number, is_register, other_kind, same_kind, kinds_differ}
-use Rattle.traces.specs.Programs.{Part, assign, sense, skip, if_then, if_else, while, break, block as braced, empty, list}
-use Rattle.syntax.specs.Phrases.{Names, Phrase, one, behind, States, sets, senses, skips, ifs, if_elses, whiles, breaks, blocks, no_more, one_more, Bound, plainly, negated, Bounds, Declares, no_register, all_declared, register, undeclared, Derives, Program}
+use Rattle.text.specs.Words.{kind, at, register_index}
+use Rattle.text.specs.Table.{Role, plain, labelled, set_register, breaks as breaks_role, declares, Item, operand, more, close_paren, semicolon, becomes, sensed, guard, statement, other, end_if, end_while, block, statements, declarations, declared_letter, bound, bare_bound, close_declaration, rules_of, table, line, statement_lines, letter_lines, following, program_start}
+use Rattle.text.specs.Expressions.{Test}
+use Rattle.text.specs.Derivations.{Free, Condition}
+use Rattle.text.proofs.Tests.{other_kind}
+use Rattle.traces.specs.Programs.{Part}
+use Rattle.syntax.specs.Phrases.{Names, Phrase, one, behind, States, sets, senses, skips, ifs, if_elses, whiles, breaks, blocks, no_more, one_more, Bound, plainly, negated, Bounds, Declares, no_register, all_declared, register, Program}
 use Rattle.text.proofs.Derived.{find_at, sign_reads, sum_reads, condition_reads}
-use Rattle.syntax.proofs.Letters.{index_small, letter_is}
+use Rattle.syntax.proofs.Letters.{index_small}
 
 -- a statement's first word, what it owes, and how that is paid
 pub record Begins (ws rest : List Word) : Type 0 where

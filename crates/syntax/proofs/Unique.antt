@@ -1,17 +1,16 @@
 -- The words of a program derive one tree. Assumes nothing.
-use Rattle.std.proofs.Common.{◌≡◌, ℕ, suc, ◌<◌, ◌≤◌, true, false, eqb, ◌⊎◌, List, [], ◌∷◌, set, ℤ, pos, ◌-ℤ◌, Some, None, Option, sym, refl, ap, ◌∙◌, subst, inl, inr, arith}
+use Rattle.std.proofs.Common.{◌≡◌, ℕ, suc, false, eqb, List, [], ◌∷◌, set, ℤ, pos, ◌-ℤ◌, Some, None, Option, sym, refl, ap, ◌∙◌, subst, inl, inr, arith}
 use Rattle.text.specs.declared.word.Register.{Register}
 use Rattle.text.specs.declared.word.Token.{Token}
-use Rattle.text.specs.declared.word.Token.TheVariants.{Number, Current, Initial, Reg, Sense, If, Else, While, Break, Semicolon, OpenParen, CloseParen, OpenBrace, CloseBrace, Minus, Set}
+use Rattle.text.specs.declared.word.Token.TheVariants.{Number, Current, Initial, Sense, If, Else, While, Break, Semicolon, OpenBrace, CloseBrace, Minus}
 use Rattle.text.specs.declared.word.Word.{Word}
 use Rattle.text.specs.Words.{kind, register_index}
-use Rattle.text.specs.Expressions.{Arith, Test}
-use Rattle.text.specs.Derivations.{Free, Sum, Condition}
+use Rattle.text.specs.Derivations.{Free}
 use Rattle.text.proofs.Tests.{kinds_differ}
 use Rattle.text.proofs.Unique.{sum_one, condition_one}
 use Rattle.traces.specs.declared.range.Range.{Range}
 use Rattle.traces.proofs.Spans.{same_range}
-use Rattle.traces.specs.Programs.{Part, assign, sense, skip, if_then, if_else, while, break, block, empty, list, Tree}
+use Rattle.traces.specs.Programs.{Part, assign, sense, if_then, if_else, while, block, empty, list, Tree}
 use Rattle.syntax.specs.Phrases.{Names, Phrase, one, behind, States, sets, senses, skips, ifs, if_elses, whiles, breaks, blocks, no_more, one_more, Bound, plainly, negated, Bounds, Declares, no_register, all_declared, register, Derives, Ranged, Tells}
 use Rattle.syntax.proofs.Letters.{index_small}
 

@@ -1,15 +1,12 @@
 -- Every item of the table can be closed. Assumes nothing.
-use Rattle.std.proofs.Common.{◌≡◌, Bool, true, false, ◌⊎◌, List, [], ◌∷◌, sym, refl, inl, inr}
+use Rattle.std.proofs.Common.{◌≡◌, true, false, List, [], ◌∷◌, sym, refl, inl, inr}
 use borrow.Author.Tests.{clash}
 use Rattle.grammar.specs.Answers.{In, Drains, inner, lawful, all_owe, Shut, Closable}
-use Rattle.text.specs.declared.word.Register.{Register}
 use Rattle.text.specs.declared.word.Register.TheVariants.{A as ra, B as rb, C as rc, D as rd, E as re, F as rf}
 use Rattle.text.specs.declared.word.Token.{Token}
-use Rattle.text.specs.declared.word.Token.TheVariants.{Number, Current, Initial, True, And, Or, Nand, Reg, Sense, If, Else, While, Break, Empty, Rest, Name, Semicolon, OpenParen, CloseParen, OpenBrace, CloseBrace, OpenBracket, CloseBracket, Less, AtMost, Equal, Set, Plus, Minus, Colon, Question, Comma, Bar, Star, Stray}
+use Rattle.text.specs.declared.word.Token.TheVariants.{Number, Current, True, Empty, Semicolon, OpenParen, CloseParen, CloseBrace, OpenBracket, CloseBracket, Less, Set, Colon, Question}
 use Rattle.text.specs.declared.word.Word.{Word}
-use Rattle.text.specs.declared.word.Scope.{Scope}
-use Rattle.text.specs.declared.word.Scope.TheVariants.{Every, Declared}
-use Rattle.text.specs.Table.{Role, plain, counted, operand_number, operand_register, set_register, sensed_register, labelled, breaks, declares, negates, bounds, ends_declaration, sheet_sign, asserts, asserts_label, labels, leaves_state, Item, operand, more, one_test, joined, comparison, close_paren, close_bracket, bracketed, semicolon, becomes, sensed, guard, statement, other, end_if, end_while, block, statements, declarations, declared_letter, bound, bare_bound, close_declaration, unit, repeats, more_labels, label, label_set, colon, group, expression, target, edges, rules_of, optional, to_the_end, table, program_start, sheet_start, monitor_start}
+use Rattle.text.specs.Table.{plain, counted, operand_number, sensed_register, labelled, declares, bounds, ends_declaration, sheet_sign, labels, Item, operand, more, one_test, joined, comparison, close_paren, close_bracket, bracketed, semicolon, becomes, sensed, guard, statement, other, end_if, end_while, block, statements, declarations, declared_letter, bound, bare_bound, close_declaration, unit, repeats, more_labels, label, label_set, colon, group, expression, target, edges, rules_of, optional, to_the_end, table, program_start, sheet_start, monitor_start}
 
 abbrev wd : Token → Word
 wd t = record { token = t; place = 0 }

@@ -1,9 +1,8 @@
 -- Boolean expressions that have been read, put together from their parts. Assumes nothing.
-use Rattle.std.proofs.Common.{◌≡◌, ℕ, zero, suc, ◌+◌, ◌<◌, ◌≤◌, true, false, cond, List, [], ◌∷◌, ◌++◌, length, Some, None, vec_items, vec_len, sym, refl, ap, ◌∙◌, subst, append_assoc, append-nil, arith, lit≤}
+use Rattle.std.proofs.Common.{◌≡◌, ℕ, suc, ◌+◌, ◌<◌, ◌≤◌, List, [], ◌∷◌, ◌++◌, length, Some, vec_items, vec_len, sym, refl, ap, ◌∙◌, subst, append_assoc, append-nil, arith, lit≤}
 use Rattle.model.specs.Cells.{at as at_place}
-use Rattle.model.specs.declared.refusal.Cause.{Cause}
 use Rattle.model.specs.declared.refusal.Cause.TheVariants.{Many}
-use Rattle.grammar.specs.Grammars.{find, takes, stuck, Quiet}
+use Rattle.grammar.specs.Grammars.{find, takes, Quiet}
 use Rattle.grammar.proofs.Trees.{find_later}
 use Rattle.text.specs.declared.boolean.Compare.{Compare}
 use Rattle.text.specs.declared.boolean.Compare.TheVariants.{Less as LessCompare, AtMost as AtMostCompare, Equal as EqualCompare}
@@ -15,23 +14,22 @@ use Rattle.text.specs.declared.node.TestNode.{TestNode}
 use Rattle.text.specs.declared.node.TestNode.TheVariants.{Always}
 use Rattle.text.specs.declared.reading.Fault.{Fault}
 use Rattle.text.specs.declared.word.Word.{Word}
-use Rattle.text.specs.declared.word.Token.{Token}
 use Rattle.text.specs.declared.word.Token.TheVariants.{True, OpenBracket, CloseBracket, Less, AtMost, Equal, And, Or, Nand}
 use Rattle.text.specs.declared.word.Scope.{Scope}
 use Rattle.text.specs.Words.{at}
-use Rattle.text.specs.Expressions.{Arith, Test, always, less, at_most, equal, both, either, not_both}
+use Rattle.text.specs.Expressions.{Arith, Test, always}
 use Rattle.text.specs.Nodes.{nodes, ArithAt, TestAt}
-use Rattle.text.specs.Table.{Item, operand, more, one_test, joined, comparison, counted, plain, rules_of, optional, Line, line}
+use Rattle.text.specs.Table.{Item, operand, more, one_test, joined, comparison, counted, rules_of, line}
 use Rattle.text.specs.Charges.{Memo, counting}
-use Rattle.text.specs.Derivations.{Sums, one, onto, Sum, Tests, one_of, onto_test, is_true, is_less, is_at_most, is_equal, in_brackets, no_more_tests, ands, ors, nands, Condition, condition, Free, TestPart, sum}
-use Rattle.text.specs.Reading.{reads, Here, Goes, Stops, place_of, cause_of, FaultAt}
+use Rattle.text.specs.Derivations.{Sum, Tests, one_of, onto_test, is_true, is_less, is_at_most, is_equal, in_brackets, no_more_tests, ands, ors, nands, Condition, condition, Free, TestPart, sum}
+use Rattle.text.specs.Reading.{reads, Here, Goes, Stops, cause_of, FaultAt}
 use Rattle.text.specs.Pools.{SameNodes, TestPushed}
 use Rattle.text.specs.Outcomes.{ArithRead, TestRead, Stopped}
 use Rattle.text.specs.Links.{compare_token, compare_node, compare_tree, link_token, link_node, link_tree, Linked}
 use Rattle.text.proofs.Tests.{other_kind}
 use Rattle.text.proofs.Derived.{quiet_joined}
 use Rattle.text.proofs.Going.{leaves_out, refuses, counted_goes, counted_many, test_as_sum}
-use Rattle.text.proofs.Stands.{at_last, at_more, vec_long, arith_more, test_more}
+use Rattle.text.proofs.Stands.{at_last, vec_long, arith_more, test_more}
 use Rattle.text.proofs.Parts.{stops_by, shorter}
 
 -- `true` has been read

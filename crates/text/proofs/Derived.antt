@@ -1,18 +1,17 @@
 -- From derivations of expressions and labels to the table. Assumes nothing.
-use Rattle.std.proofs.Common.{◌≡◌, Bool, true, false, cond, eqb, List, [], ◌∷◌, ◌++◌, sym, refl, ap, ◌∙◌, subst, lit≤}
-use Rattle.grammar.specs.Grammars.{Rule, Step, stuck, takes, find, Quiet, Reads, nothing, took, without}
+use Rattle.std.proofs.Common.{◌≡◌, List, [], ◌∷◌, refl, ap, ◌∙◌, lit≤}
+use Rattle.grammar.specs.Grammars.{takes, find, Quiet, Reads, nothing, took, without}
 use Rattle.grammar.proofs.Steps.{joins}
 use Rattle.grammar.proofs.Trees.{find_later}
-use Rattle.text.specs.declared.word.Register.{Register}
 use Rattle.text.specs.declared.word.Token.{Token}
-use Rattle.text.specs.declared.word.Token.TheVariants.{Number, Current, Initial, True, And, Or, Nand, Reg, Sense, If, Else, While, Break, Empty, Rest, Name, Semicolon, OpenParen, CloseParen, OpenBrace, CloseBrace, OpenBracket, CloseBracket, Less, AtMost, Equal, Set, Plus, Minus, Colon, Question, Comma, Bar, Star, Stray}
+use Rattle.text.specs.declared.word.Token.TheVariants.{Number, Current, Initial, True, And, Or, Nand, OpenParen, CloseParen, OpenBracket, CloseBracket, Less, AtMost, Equal, Plus, Minus, Question, Comma}
 use Rattle.text.specs.declared.word.Word.{Word}
-use Rattle.text.specs.Words.{kind, at}
-use Rattle.text.specs.Table.{Role, plain, counted, operand_number, operand_register, set_register, sensed_register, labelled, breaks, declares, negates, bounds, ends_declaration, sheet_sign, asserts, asserts_label, labels, leaves_state, Item, operand, more, one_test, joined, comparison, close_paren, close_bracket, bracketed, semicolon, becomes, sensed, guard, statement, other, end_if, end_while, block, statements, declarations, declared_letter, bound, bare_bound, close_declaration, unit, repeats, more_labels, label, label_set, colon, group, expression, target, edges, rules_of, optional, table, Line, line}
+use Rattle.text.specs.Words.{at}
+use Rattle.text.specs.Table.{Role, plain, counted, Item, operand, more, one_test, joined, comparison, close_paren, close_bracket, more_labels, label, label_set, rules_of, table, line}
 use Rattle.text.specs.Expressions.{Arith, Test}
-use Rattle.text.specs.Derivations.{NoneOf, Free, SumPart, one, onto, Sums, a_number, a_current, an_initial, in_parens, no_more, adds, subtracts, Sum, sum, TestPart, one_of, onto_test, Tests, is_true, is_less, is_at_most, is_equal, in_brackets, no_more_tests, ands, ors, nands, Condition, condition}
-use Rattle.text.specs.LabelSets.{LabelSet, every, these, MoreLabels, no_comma, comma, Labels, question, numbers}
-use Rattle.text.proofs.Tests.{of_kind, other_kind}
+use Rattle.text.specs.Derivations.{Free, SumPart, one, onto, Sums, a_number, a_current, an_initial, in_parens, no_more, adds, subtracts, Sum, sum, TestPart, one_of, onto_test, Tests, is_true, is_less, is_at_most, is_equal, in_brackets, no_more_tests, ands, ors, nands, Condition, condition}
+use Rattle.text.specs.LabelSets.{LabelSet, MoreLabels, no_comma, comma, Labels, question, numbers}
+use Rattle.text.proofs.Tests.{other_kind}
 
 -- a word is found by its token, whatever its place
 pub find_at : (i : Item) (w : Word) (t : Token) → w.token ≡ t → find (rules_of i) w ≡ find (rules_of i) (record { token = t; place = w.place })

@@ -1,22 +1,22 @@
 -- One word of reading by the table, in the forms that the proofs of readers use. Assumes nothing.
-use Rattle.std.proofs.Common.{◌≡◌, ℕ, suc, ◌+◌, ◌-◌, ◌<◌, ◌≤◌, Bool, true, false, cond, not, eqb, ltb, ◌⊎◌, List, [], ◌∷◌, ◌++◌, sym, refl, ap, ◌∙◌, subst, inl, inr, arith, lit≤, le-ltb, lt-ltb}
+use Rattle.std.proofs.Common.{◌≡◌, ℕ, suc, ◌-◌, ◌<◌, ◌≤◌, Bool, true, false, cond, not, List, [], ◌∷◌, ◌++◌, sym, refl, ap, ◌∙◌, arith, lit≤, le-ltb, lt-ltb}
 use borrow.Author.Tests.{clash}
-use Rattle.grammar.specs.Grammars.{Rule, Step, stuck, takes, find, Quiet}
-use Rattle.grammar.specs.Answers.{next, feed, leaves, Charge, fine, charged, Answer, good, fault, stepping, reading}
+use Rattle.grammar.specs.Grammars.{Step, stuck, takes, find, Quiet}
+use Rattle.grammar.specs.Answers.{next, feed, leaves, fine, charged, fault, stepping, reading}
 use Rattle.grammar.proofs.Steps.{feed_takes, feed_stuck, reading_takes, reading_charged, reading_stuck, reading_ended, reading_without}
 use Rattle.model.specs.declared.refusal.Cause.{Cause}
-use Rattle.model.specs.declared.refusal.Cause.TheVariants.{Unexpected, Many, Deep, Number as Numbered, Register as Registered}
+use Rattle.model.specs.declared.refusal.Cause.TheVariants.{Many, Deep, Number as Numbered, Register as Registered}
 use Rattle.text.specs.declared.word.Register.{Register}
 use Rattle.text.specs.declared.word.Token.{Token}
-use Rattle.text.specs.declared.word.Token.TheVariants.{Number, Current, Initial, True, And, Or, Nand, Reg, Sense, If, Else, While, Break, Empty, Rest, Name, Semicolon, OpenParen, CloseParen, OpenBrace, CloseBrace, OpenBracket, CloseBracket, Less, AtMost, Equal, Set, Plus, Minus, Colon, Question, Comma, Bar, Star, Stray}
+use Rattle.text.specs.declared.word.Token.TheVariants.{Number, Current, Initial, True, OpenParen, OpenBracket}
 use Rattle.text.specs.declared.word.Word.{Word}
 use Rattle.text.specs.declared.word.Scope.{Scope}
-use Rattle.text.specs.Words.{kind, at, a_number, a_register, amount, allowed}
-use Rattle.text.specs.Table.{Role, plain, counted, operand_number, operand_register, set_register, sensed_register, labelled, breaks, declares, negates, bounds, ends_declaration, sheet_sign, asserts, asserts_label, labels, leaves_state, Item, operand, more, one_test, joined, comparison, close_paren, close_bracket, bracketed, semicolon, becomes, sensed, guard, statement, other, end_if, end_while, block, statements, declarations, declared_letter, bound, bare_bound, close_declaration, unit, repeats, more_labels, label, label_set, colon, group, expression, target, edges, rules_of, optional, table, Line, line}
+use Rattle.text.specs.Words.{at, a_number, a_register, amount, allowed}
+use Rattle.text.specs.Table.{Role, plain, counted, operand_number, operand_register, Item, operand, more, one_test, joined, comparison, close_paren, close_bracket, rules_of, optional, table, line}
 use Rattle.text.specs.Charges.{Memo, causes, charge, when, deep, one_word, counting, opens, open_in}
 use Rattle.text.specs.Derivations.{Free}
 use Rattle.text.specs.Reading.{reads, Here, Goes, Stops, cause_of, Skipped, Unlike}
-use Rattle.text.proofs.Tests.{of_kind, is_token, other_kind, no_number, no_register}
+use Rattle.text.proofs.Tests.{other_kind, no_number, no_register}
 use Rattle.text.proofs.Derived.{find_at}
 
 -- the item takes the word, and nothing is charged

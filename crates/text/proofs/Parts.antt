@@ -1,21 +1,20 @@
 -- What has been read, put together from its parts. Assumes nothing.
-use Rattle.std.proofs.Common.{◌≡◌, ℕ, zero, suc, ◌+◌, ◌<◌, ◌≤◌, true, false, List, [], ◌∷◌, ◌++◌, length, IsErrAnd, Some, None, Ok, Err, vec_items, vec_len, Result, sym, refl, ap, ◌∙◌, subst, append_assoc, arith, MatchResult}
+use Rattle.std.proofs.Common.{◌≡◌, ℕ, suc, ◌+◌, ◌<◌, ◌≤◌, false, List, [], ◌∷◌, ◌++◌, length, IsErrAnd, Some, Ok, Err, vec_items, vec_len, Result, sym, refl, ap, ◌∙◌, subst, append_assoc, arith, MatchResult}
 use Rattle.model.specs.Cells.{at}
 use Rattle.model.specs.declared.refusal.Cause.{Cause}
 use Rattle.text.specs.declared.expressions.Expressions.{Expressions}
 use Rattle.text.specs.declared.node.ArithNode.{ArithNode}
-use Rattle.text.specs.declared.node.TestNode.{TestNode}
 use Rattle.text.specs.declared.reading.Fault.{Fault}
 use Rattle.text.specs.declared.word.Word.{Word}
 use Rattle.text.specs.declared.word.Scope.{Scope}
-use Rattle.text.specs.Expressions.{Arith, number, current, initial, plus, minus, Test, always, less, at_most, equal, both, either, not_both}
-use Rattle.text.specs.Nodes.{nodes, Before, ArithAt, TestAt}
+use Rattle.text.specs.Expressions.{Arith, number, current, initial}
+use Rattle.text.specs.Nodes.{nodes, ArithAt}
 use Rattle.text.specs.Table.{Item, operand, more}
 use Rattle.text.specs.Derivations.{Sums, one, onto, Sum}
 use Rattle.text.specs.Reading.{reads, Here, Goes, Stops, place_of, cause_of, FaultAt}
-use Rattle.text.specs.Pools.{SameNodes, ArithPushed, TestPushed}
+use Rattle.text.specs.Pools.{SameNodes, ArithPushed}
 use Rattle.model.specs.declared.refusal.Cause.TheVariants.{Many}
-use Rattle.text.specs.Outcomes.{ArithRead, TestRead, Stopped, Leafed, TooMany}
+use Rattle.text.specs.Outcomes.{ArithRead, Stopped, Leafed}
 use Rattle.text.specs.declared.node.ArithNode.TheVariants.{Number as NumberNode, Current as CurrentNode, Initial as InitialNode, Plus as PlusNode, Minus as MinusNode}
 use Rattle.text.specs.declared.word.Token.TheVariants.{Plus, Minus, Current, Initial}
 use Rattle.text.specs.declared.arith.Join.{Join}
@@ -28,7 +27,7 @@ use Rattle.text.specs.Derivations.{a_current, an_initial, no_more, adds, subtrac
 use Rattle.text.specs.Joins.{Named, join_token, join_node, join_tree, Joined}
 use Rattle.text.proofs.Derived.{quiet_more}
 use Rattle.text.proofs.Going.{leaves_out, refuses, counted_goes, counted_many}
-use Rattle.text.proofs.Stands.{at_last, at_more, vec_long, arith_more, test_more}
+use Rattle.text.proofs.Stands.{at_last, vec_long, arith_more}
 
 -- the exit of a `?`: the error is handed on as it is
 pub broken : {T E : Type 0} (r : Result T E) (P : T → Type 0) (Q : E → Type 0) (e : E) → IsErrAnd r (λ y. y ≡ e) → Q e → MatchResult r P Q

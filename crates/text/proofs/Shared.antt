@@ -1,20 +1,19 @@
 -- What the items that all texts share stand for: from the table to derivations. Assumes nothing.
-use Rattle.std.proofs.Common.{◌≡◌, ℕ, Bool, true, false, cond, eqb, ◌⊎◌, List, [], ◌∷◌, ◌++◌, sym, refl, ap, ◌∙◌, subst, inl, inr, lit≤}
+use Rattle.std.proofs.Common.{◌≡◌, ℕ, Bool, true, false, ◌⊎◌, List, [], ◌∷◌, sym, refl, ap, ◌∙◌, subst, inl, inr, lit≤}
 use borrow.Author.Tests.{clash}
-use Rattle.grammar.specs.Grammars.{Rule, Step, stuck, takes, find, Quiet, Reads}
+use Rattle.grammar.specs.Grammars.{stuck, takes, find, Quiet, Reads}
 use Rattle.grammar.proofs.Steps.{clash_step}
 use Rattle.grammar.proofs.Trees.{Means, means, by_lines, stuck_here}
 use Rattle.text.specs.declared.word.Register.{Register}
-use Rattle.text.specs.declared.word.Register.TheVariants.{A as ra, B as rb, C as rc, D as rd, E as re, F as rf}
 use Rattle.text.specs.declared.word.Token.{Token}
-use Rattle.text.specs.declared.word.Token.TheVariants.{Number, Current, Initial, True, And, Or, Nand, Reg, Sense, If, Else, While, Break, Empty, Rest, Name, Semicolon, OpenParen, CloseParen, OpenBrace, CloseBrace, OpenBracket, CloseBracket, Less, AtMost, Equal, Set, Plus, Minus, Colon, Question, Comma, Bar, Star, Stray}
+use Rattle.text.specs.declared.word.Token.TheVariants.{Number, Current, Initial, True, And, Or, Nand, Semicolon, OpenParen, CloseParen, OpenBracket, CloseBracket, Less, AtMost, Equal, Set, Plus, Minus, Colon, Question, Comma}
 use Rattle.text.specs.declared.word.Word.{Word}
-use Rattle.text.specs.Words.{kind, at, a_number, a_register, register_index}
-use Rattle.text.specs.Table.{Role, plain, counted, operand_number, operand_register, set_register, sensed_register, labelled, breaks, declares, negates, bounds, ends_declaration, sheet_sign, asserts, asserts_label, labels, leaves_state, Item, operand, more, one_test, joined, comparison, close_paren, close_bracket, bracketed, semicolon, becomes, sensed, guard, statement, other, end_if, end_while, block, statements, declarations, declared_letter, bound, bare_bound, close_declaration, unit, repeats, more_labels, label, label_set, colon, group, expression, target, edges, rules_of, optional, table, Line, line}
+use Rattle.text.specs.Words.{kind, at, register_index}
+use Rattle.text.specs.Table.{Role, plain, Item, operand, more, one_test, joined, comparison, close_paren, close_bracket, bracketed, semicolon, becomes, sensed, guard, statement, other, end_if, end_while, block, statements, declarations, declared_letter, bound, bare_bound, close_declaration, unit, repeats, more_labels, label, label_set, colon, group, expression, target, edges, rules_of, optional, table, Line, line}
 use Rattle.text.specs.Expressions.{Arith, number, current, initial, plus, minus, Test, always, less, at_most, equal, both, either, not_both}
-use Rattle.text.specs.Derivations.{NoneOf, Free, SumPart, one, onto, Sums, a_number as num, a_current, an_initial, in_parens, no_more, adds, subtracts, Sum, sum, TestPart, one_of, onto_test, Tests, is_true, is_less, is_at_most, is_equal, in_brackets, no_more_tests, ands, ors, nands, Condition, condition}
+use Rattle.text.specs.Derivations.{Free, one, onto, Sums, a_number as num, a_current, an_initial, in_parens, no_more, adds, subtracts, Sum, sum, one_of, onto_test, Tests, is_true, is_less, is_at_most, is_equal, in_brackets, no_more_tests, ands, ors, nands, Condition, condition}
 use Rattle.text.specs.LabelSets.{LabelSet, every, these, MoreLabels, no_comma, comma, Labels, question, numbers}
-use Rattle.text.proofs.Tests.{of_kind, is_token, is_number, is_register, other_kind, same_kind, kinds_differ}
+use Rattle.text.proofs.Tests.{of_kind, is_token, is_number, is_register, kinds_differ}
 
 -- the words are a given sign and rest
 abbrev pub Sign : Token → List Word → List Word → Type 0

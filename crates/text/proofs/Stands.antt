@@ -1,10 +1,10 @@
 -- What stands at a place goes on standing there when more nodes are added. Assumes nothing.
-use Rattle.std.proofs.Common.{◌≡◌, ℕ, zero, suc, ◌+◌, ◌<◌, ◌≤◌, List, [], ◌∷◌, ◌++◌, length, Some, None, vec_items, vec_len, Vec, sym, refl, ap, ◌∙◌, subst, arith}
+use Rattle.std.proofs.Common.{◌≡◌, ℕ, zero, suc, List, [], ◌∷◌, ◌++◌, length, Some, vec_items, vec_len, Vec, refl, arith}
 use Rattle.model.specs.Cells.{at}
 use Rattle.text.specs.declared.node.ArithNode.{ArithNode}
 use Rattle.text.specs.declared.node.TestNode.{TestNode}
 use Rattle.text.specs.Expressions.{Arith, number, current, initial, plus, minus, Test, always, less, at_most, equal, both, either, not_both}
-use Rattle.text.specs.Nodes.{nodes, Before, ArithAt, TestAt}
+use Rattle.text.specs.Nodes.{ArithAt, TestAt}
 
 pub at_last : {X : Type 0} (xs : List X) (x : X) → at (xs ++ x ∷ []) (length xs) ≡ Some x
 at_last [] x = refl

@@ -1,12 +1,12 @@
 -- Words derive one tree: that of an arithmetic or a boolean expression is unique, and so is what is left. Assumes nothing.
-use Rattle.std.proofs.Common.{◌≡◌, ℕ, true, false, eqb, List, [], ◌∷◌, sym, refl, ap, ◌∙◌, subst, arith}
+use Rattle.std.proofs.Common.{◌≡◌, ℕ, false, eqb, List, ◌∷◌, sym, refl, ap, ◌∙◌, subst, arith}
 use Rattle.text.specs.declared.word.Register.{Register}
 use Rattle.text.specs.declared.word.Token.{Token}
-use Rattle.text.specs.declared.word.Token.TheVariants.{Number, Current, Initial, True, And, Or, Nand, OpenParen, CloseParen, OpenBracket, CloseBracket, Less, AtMost, Equal, Plus, Minus}
+use Rattle.text.specs.declared.word.Token.TheVariants.{Number, Current, Initial, True, And, Or, Nand, OpenParen, OpenBracket, Less, AtMost, Equal, Plus, Minus}
 use Rattle.text.specs.declared.word.Word.{Word}
 use Rattle.text.specs.Words.{kind, register_index}
-use Rattle.text.specs.Expressions.{Arith, number, current, initial, plus, minus, Test, always, less, at_most, equal, both, either, not_both}
-use Rattle.text.specs.Derivations.{Free, SumPart, one, onto, Sums, a_number, a_current, an_initial, in_parens, no_more, adds, subtracts, Sum, sum, TestPart, one_of, onto_test, Tests, is_true, is_less, is_at_most, is_equal, in_brackets, no_more_tests, ands, ors, nands, Condition, condition}
+use Rattle.text.specs.Expressions.{Arith, number, current, initial, plus, minus, Test, less, at_most, equal, both, either, not_both}
+use Rattle.text.specs.Derivations.{SumPart, onto, Sums, a_number, a_current, an_initial, in_parens, no_more, adds, subtracts, Sum, sum, TestPart, onto_test, Tests, is_true, is_less, is_at_most, is_equal, in_brackets, no_more_tests, ands, ors, nands, Condition, condition}
 use Rattle.text.proofs.Tests.{kinds_differ}
 
 -- a word of two kinds

@@ -1,5 +1,5 @@
 -- What joins two operands, and what one turn of reading an expression adds. Assumes nothing.
-use Rattle.std.specs.Prelude.{◌≡◌, ℕ, suc, ◌+◌, List, [], ◌∷◌, ◌++◌, vec_items, vec_len}
+use Rattle.std.specs.Prelude.{◌≡◌, ℕ, suc, ◌+◌, List, ◌∷◌, ◌++◌, vec_items, vec_len}
 use Rattle.text.specs.declared.arith.Join.{Join}
 use Rattle.text.specs.declared.arith.Join.TheVariants.{Plus as PlusJoin, Minus as MinusJoin}
 use Rattle.text.specs.declared.expressions.Expressions.{Expressions}

@@ -1,6 +1,5 @@
 -- Which words are a set of labels. Assumes nothing.
 use Rattle.std.specs.Prelude.{◌≡◌, ℕ, Bool, true, false, cond, List, [], ◌∷◌, ◌==◌}
-use Rattle.text.specs.declared.word.Token.{Token}
 use Rattle.text.specs.declared.word.Token.TheVariants.{Number, Question, Comma}
 use Rattle.text.specs.declared.word.Word.{Word}
 use Rattle.text.specs.Derivations.{Free}

@@ -1,5 +1,5 @@
 -- What compares and joins tests, and what one turn of reading a condition adds. Assumes nothing.
-use Rattle.std.specs.Prelude.{◌≡◌, ℕ, suc, ◌+◌, List, [], ◌∷◌, ◌++◌, vec_items, vec_len}
+use Rattle.std.specs.Prelude.{◌≡◌, ℕ, suc, ◌+◌, List, ◌∷◌, ◌++◌, vec_items, vec_len}
 use Rattle.text.specs.declared.boolean.Compare.{Compare}
 use Rattle.text.specs.declared.boolean.Compare.TheVariants.{Less as LessCompare, AtMost as AtMostCompare, Equal as EqualCompare}
 use Rattle.text.specs.declared.boolean.Link.{Link}

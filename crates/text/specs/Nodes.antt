@@ -1,5 +1,5 @@
 -- Which pure tree stands at a place among nodes. Assumes nothing.
-use Rattle.std.specs.Prelude.{◌≡◌, ℕ, suc, ◌+◌, ◌<◌, ◌≤◌, List, [], ◌∷◌, Some, None, Option}
+use Rattle.std.specs.Prelude.{◌≡◌, ℕ, suc, ◌+◌, ◌<◌, ◌≤◌, List, Some}
 use Rattle.model.specs.Cells.{at}
 use Rattle.text.specs.declared.word.Register.{Register}
 use Rattle.text.specs.declared.node.ArithNode.{ArithNode}

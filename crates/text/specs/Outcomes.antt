@@ -1,21 +1,16 @@
 -- What the readers of expressions answer. Assumes nothing.
-use Rattle.std.specs.Prelude.{◌≡◌, ℕ, suc, ◌+◌, ◌≤◌, Bool, true, false, List, [], ◌∷◌, ◌++◌, vec_items, vec_len}
-use Rattle.model.specs.declared.refusal.Cause.{Cause}
+use Rattle.std.specs.Prelude.{◌≡◌, ℕ, suc, ◌+◌, ◌≤◌, List, [], ◌∷◌, ◌++◌, vec_items, vec_len}
 use Rattle.model.specs.declared.refusal.Cause.TheVariants.{Many}
 use Rattle.text.specs.declared.expressions.Expressions.{Expressions}
 use Rattle.text.specs.declared.node.ArithNode.{ArithNode}
 use Rattle.text.specs.declared.node.TestNode.{TestNode}
 use Rattle.text.specs.declared.reading.Fault.{Fault}
 use Rattle.text.specs.declared.word.Word.{Word}
-use Rattle.text.specs.declared.word.Token.{Token}
-use Rattle.text.specs.declared.word.Token.TheVariants.{Plus, Minus, And, Or, Nand, Less, AtMost, Equal}
 use Rattle.text.specs.declared.word.Scope.{Scope}
-use Rattle.text.specs.Expressions.{Arith, plus, minus, Test, less, at_most, equal, both, either, not_both}
+use Rattle.text.specs.Expressions.{Arith, Test}
 use Rattle.text.specs.Nodes.{nodes, ArithAt, TestAt}
-use Rattle.text.specs.Table.{Item, more}
-use Rattle.text.specs.Charges.{Memo, counting}
-use Rattle.text.specs.Derivations.{Sums, one}
-use Rattle.text.specs.Reading.{reads, Here, Goes, Stops, place_of}
+use Rattle.text.specs.Table.{Item}
+use Rattle.text.specs.Reading.{Goes, Stops, place_of}
 
 -- an arithmetic part has been read: from ws to rest, with its tree at place i of the room y, which was x
 pub record ArithRead (js : List Item) (D : List Word → Arith → List Word → Type 0) (s : Scope) (left : ℕ) (ws : List Word) (x y : Expressions) (i : ℕ) (rest : List Word) : Type 0 where

@@ -1,6 +1,6 @@
 -- What a reading function owes to those that call it. Assumes nothing.
 use Rattle.std.specs.Prelude.{◌≡◌, ℕ, ◌+◌, true, false, cond, List, [], ◌∷◌, ◌++◌}
-use Rattle.grammar.specs.Answers.{Answer, good, fault, reading, Deserved}
+use Rattle.grammar.specs.Answers.{Answer, fault, reading}
 use Rattle.model.specs.declared.refusal.Cause.{Cause}
 use Rattle.model.specs.declared.refusal.Cause.TheVariants.{Byte, Unexpected}
 use Rattle.text.specs.declared.reading.Fault.{Fault}
@@ -9,7 +9,7 @@ use Rattle.text.specs.declared.word.Token.TheVariants.{Stray}
 use Rattle.text.specs.declared.word.Word.{Word}
 use Rattle.text.specs.Words.{at}
 use Rattle.text.specs.declared.word.Scope.{Scope}
-use Rattle.text.specs.Table.{Item, Role, table}
+use Rattle.text.specs.Table.{Item, table}
 use Rattle.text.specs.Charges.{Memo, causes, counting, open_in}
 
 -- reading by the table of programs, sheets and monitors

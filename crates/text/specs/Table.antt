@@ -1,13 +1,10 @@
 -- One table for programs, sheets and monitors: what each item that is owed may be paid with. Assumes nothing.
-use Rattle.std.specs.Prelude.{◌≡◌, Bool, true, false, List, [], ◌∷◌, ◌++◌}
+use Rattle.std.specs.Prelude.{Bool, true, false, List, [], ◌∷◌}
 use Rattle.grammar.specs.Grammars.{Rule, Grammar}
 use Rattle.text.specs.declared.word.Register.{Register}
 use Rattle.text.specs.declared.word.Register.TheVariants.{A as ra, B as rb, C as rc, D as rd, E as re, F as rf}
-use Rattle.text.specs.declared.word.Token.{Token}
-use Rattle.text.specs.declared.word.Token.TheVariants.{Number, Current, Initial, True, And, Or, Nand, Reg, Sense, If, Else, While, Break, Empty, Rest, Name, Semicolon, OpenParen, CloseParen, OpenBrace, CloseBrace, OpenBracket, CloseBracket, Less, AtMost, Equal, Set, Plus, Minus, Colon, Question, Comma, Bar, Star, Stray}
+use Rattle.text.specs.declared.word.Token.TheVariants.{True, And, Or, Nand, Reg, Sense, If, Else, While, Break, Empty, Rest, Semicolon, OpenParen, CloseParen, OpenBrace, CloseBrace, OpenBracket, CloseBracket, Less, AtMost, Equal, Set, Plus, Minus, Colon, Question, Comma, Bar, Star}
 use Rattle.text.specs.declared.word.Word.{Word}
-use Rattle.text.specs.declared.word.Scope.{Scope}
-use Rattle.text.specs.declared.word.Scope.TheVariants.{Every, Declared}
 use Rattle.text.specs.Words.{at, a_number, a_register, names}
 
 -- what a word is there for: its charges depend on it

@@ -1,5 +1,5 @@
 -- What the table of the grammar asks of a word. Assumes nothing.
-use Rattle.std.specs.Prelude.{◌≡◌, ℕ, Bool, true, false, cond, ◌&&◌, ◌||◌, List, [], ◌∷◌, ◌==◌, nat_lt, slice_index_or}
+use Rattle.std.specs.Prelude.{ℕ, Bool, true, false, cond, ◌==◌, nat_lt, slice_index_or}
 use Rattle.text.specs.declared.word.Register.{Register}
 use Rattle.text.specs.declared.word.Register.TheVariants.{A as ra, B as rb, C as rc, D as rd, E as re, F as rf}
 use Rattle.text.specs.declared.word.Token.{Token}

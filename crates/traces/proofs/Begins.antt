@@ -1,13 +1,13 @@
 -- The start codes: the codes of the settings, ascending. Assumes nothing.
-use Rattle.std.proofs.Common.{◌≡◌, ℕ, zero, suc, ◌+◌, ◌*◌, ◌/◌, ◌%◌, ◌^◌, ◌<◌, ◌≤◌, Bool, true, false, cond, ◌&&◌, ◌⊎◌, List, [], ◌∷◌, ◌++◌, length, ℤ, pos, negsuc, ◌+ℤ◌, ◌-ℤ◌, ◌≤ℤ◌, ◌<ℤ◌, Some, None, Option, sym, refl, ap, ◌∙◌, subst, inl, inr, mul_comm, add-mul, mul-suc, arith, length-append}
-use Rattle.std.proofs.lemmas.Bool.{cases_lt, cases_eq}
+use Rattle.std.proofs.Common.{◌≡◌, ℕ, zero, suc, ◌+◌, ◌*◌, ◌<◌, ◌≤◌, ◌⊎◌, List, [], ◌∷◌, ◌++◌, length, ℤ, pos, ◌+ℤ◌, ◌≤ℤ◌, Some, None, sym, refl, ap, ◌∙◌, subst, inl, inr, mul-suc, arith, length-append}
+use Rattle.std.proofs.lemmas.Bool.{cases_eq}
 use Rattle.std.proofs.lemmas.Int.{ints}
 use Rattle.model.specs.Cells.{In, at}
 use Rattle.traces.specs.declared.range.Range.{Range}
 use Rattle.traces.specs.Traces.{Setting}
 use Rattle.traces.specs.Tables.{above}
 use Rattle.traces.specs.Codes.{packed, digits, below, start_codes, settings, Rises}
-use Rattle.traces.proofs.Spans.{Ordered, range_ordered, above_is, wide}
+use Rattle.traces.proofs.Spans.{range_ordered, above_is, wide}
 use Rattle.traces.proofs.Packing.{narrow, above_plus}
 
 pub in_left : {A : Type 0} (x : A) (xs ys : List A) → In x xs → In x (xs ++ ys)

@@ -1,17 +1,17 @@
 -- The laws of the cell that a sound table is, and its runs: the traces of the program. Assumes nothing.
-use Rattle.std.proofs.Common.{◌≡◌, ℕ, zero, suc, ◌+◌, ◌*◌, ◌/◌, ◌%◌, ◌^◌, ◌<◌, ◌≤◌, Bool, true, false, cond, ◌&&◌, eqb, leb, ◌⊎◌, List, [], ◌∷◌, ◌++◌, map, length, set, ℤ, pos, ◌+ℤ◌, Some, None, Option, sym, refl, ap, ◌∙◌, subst, inl, inr, arith}
-use Rattle.std.proofs.lemmas.Bool.{and_parts, and_from, leb-true, le-leb, eqb-true, cases_Bool, cond-true, cond-false, cases_lt}
+use Rattle.std.proofs.Common.{◌≡◌, ℕ, zero, suc, ◌+◌, ◌/◌, ◌%◌, ◌^◌, ◌<◌, ◌≤◌, true, false, cond, ◌&&◌, eqb, leb, List, [], ◌∷◌, map, length, set, ℤ, pos, ◌+ℤ◌, Some, None, Option, sym, refl, ap, ◌∙◌, subst, inl, inr, arith}
+use Rattle.std.proofs.lemmas.Bool.{and_parts, leb-true, eqb-true, cases_Bool, cond-true, cond-false, cases_lt}
 use Rattle.model.specs.Cells.{In, at, Limited}
 use Rattle.text.specs.Expressions.{holds}
 use Rattle.traces.specs.declared.range.Range.{Range}
-use Rattle.traces.specs.Programs.{Part, assign, sense, skip, if_then, if_else, while, break, block, empty, list, size, begins, Tree, ranges}
-use Rattle.traces.specs.Traces.{State, ◌▹◌, seen, range_at, Setting, Starts, Prefix, exit, Traces}
-use Rattle.traces.specs.Tables.{Instruction, assigns, senses, goes, branches, table, table_of, outcomes, following, next_states, Path, Paths, each, span, upward, above}
-use Rattle.traces.specs.Codes.{packed, code, codes, unpacked, in_range, state_of, is_state, start_codes, settings, next_codes, leads_to, lead_to, sound}
+use Rattle.traces.specs.Programs.{size, begins, Tree, ranges}
+use Rattle.traces.specs.Traces.{State, ◌▹◌, seen, range_at, Prefix, exit, Traces}
+use Rattle.traces.specs.Tables.{Instruction, assigns, senses, goes, branches, table_of, outcomes, following, next_states, Path, Paths, each, span, upward, above}
+use Rattle.traces.specs.Codes.{code, codes, unpacked, state_of, is_state, start_codes, settings, next_codes, leads_to, lead_to, sound}
 use Rattle.traces.proofs.Spans.{span_only}
-use Rattle.traces.proofs.Packing.{Fits, setting_fits, set_fits, stored_fits, fits_limited, narrow, packed_small, state_of_code, is_state_code, code_of_state, state_fits, state_label}
-use Rattle.traces.proofs.Begins.{start_has, start_only, start_length, at_end}
-use Rattle.traces.proofs.Walks.{Walk, Walks, Placed, Near, begins_is, length_table, walks_of, traces_of, outcomes_lead}
+use Rattle.traces.proofs.Packing.{Fits, setting_fits, set_fits, stored_fits, fits_limited, narrow, state_of_code, is_state_code, state_fits, state_label}
+use Rattle.traces.proofs.Begins.{start_only, start_length, at_end}
+use Rattle.traces.proofs.Walks.{Walk, Placed, begins_is, length_table, walks_of, traces_of, outcomes_lead}
 
 -- what soundness says
 pub record Sound (rs : List Range) (tbl : List Instruction) : Type 0 where

@@ -1,10 +1,10 @@
 -- Statements in label order with their owners and the ends of their labels, and how the labels after them follow. Assumes nothing.
-use Rattle.std.proofs.Common.{◌≡◌, ℕ, zero, suc, ◌+◌, ◌<◌, ◌≤◌, Bool, true, false, cond, ltb, ◌⊎◌, List, [], ◌∷◌, ◌++◌, length, Some, None, Option, sym, refl, ap, ◌∙◌, subst, inl, inr, arith, length-append}
+use Rattle.std.proofs.Common.{◌≡◌, ℕ, ◌+◌, ◌<◌, ◌≤◌, cond, ltb, List, [], ◌∷◌, ◌++◌, length, Some, None, Option, sym, refl, ap, ◌∙◌, subst, inl, inr, arith, length-append}
 use Rattle.std.proofs.lemmas.Bool.{cases_eq, cases_lt, lt-ltb, le-ltb}
 use Rattle.text.specs.Expressions.{Arith, Test}
 use Rattle.traces.specs.Programs.{Part, assign, sense, skip, if_then, if_else, while, break, block, empty, list, size, begins}
 use Rattle.traces.specs.Tables.{Instruction, assigns, senses, goes, branches, table}
-use Rattle.traces.proofs.Walks.{begins_is, length_table}
+use Rattle.traces.proofs.Walks.{begins_is}
 
 -- what a statement is, before the labels that it goes on to are known
 pub data Kind : Type 0 where

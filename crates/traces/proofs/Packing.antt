@@ -1,14 +1,13 @@
 -- Codes are packed and unpacked without loss. Assumes nothing.
-use Rattle.std.proofs.Common.{◌≡◌, ℕ, zero, suc, ◌+◌, ◌*◌, ◌/◌, ◌%◌, ◌^◌, ◌<◌, ◌≤◌, Bool, true, false, cond, ◌&&◌, eqb, leb, ◌⊎◌, List, [], ◌∷◌, ◌++◌, length, set, ℤ, pos, negsuc, ◌+ℤ◌, ◌-ℤ◌, ◌≤ℤ◌, ◌<ℤ◌, sym, refl, ap, ◌∙◌, subst, inl, inr, arith}
-use Rattle.std.proofs.lemmas.Bool.{and_parts, and_from, leb-true, le-leb, eqb-true, eq-eqb, cases_Bool}
-use Rattle.std.proofs.lemmas.Int.{ints, by_lt_z}
-use Rattle.model.specs.Cells.{In, Limited}
+use Rattle.std.proofs.Common.{◌≡◌, ℕ, zero, suc, ◌+◌, ◌*◌, ◌/◌, ◌%◌, ◌^◌, ◌<◌, ◌≤◌, true, leb, List, [], ◌∷◌, length, set, ℤ, pos, ◌+ℤ◌, ◌≤ℤ◌, sym, refl, arith}
+use Rattle.std.proofs.lemmas.Bool.{and_parts, and_from, leb-true, le-leb, eqb-true}
+use Rattle.std.proofs.lemmas.Int.{ints}
+use Rattle.model.specs.Cells.{Limited}
 use Rattle.traces.specs.declared.range.Range.{Range}
-use Rattle.traces.specs.Programs.{nil}
-use Rattle.traces.specs.Traces.{State, ◌▹◌, range_at, kept, stored, Setting}
+use Rattle.traces.specs.Traces.{State, range_at, kept, stored, Setting}
 use Rattle.traces.specs.Tables.{above}
 use Rattle.traces.specs.Codes.{packed, code, unpacked, in_range, state_of, is_state}
-use Rattle.traces.proofs.Spans.{Ordered, range_ordered, above_is, wide}
+use Rattle.traces.proofs.Spans.{range_ordered, above_is, wide}
 
 -- every value is in its range
 abbrev pub Fits : List Range → List ℤ → Type 0

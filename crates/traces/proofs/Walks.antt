@@ -1,11 +1,11 @@
 -- Prefix traces are the paths of steps: both ways, by structural induction. Assumes nothing.
-use Rattle.std.proofs.Common.{◌≡◌, ℕ, zero, suc, ◌+◌, ◌<◌, ◌≤◌, Bool, true, false, cond, ◌⊎◌, List, [], ◌∷◌, ◌++◌, length, set, ℤ, ◌≤ℤ◌, Some, None, Option, sym, refl, ap, ◌∙◌, subst, inl, inr, append_assoc, arith, length-append}
+use Rattle.std.proofs.Common.{◌≡◌, ℕ, zero, suc, ◌+◌, ◌<◌, ◌≤◌, Bool, true, false, cond, ◌⊎◌, List, [], ◌∷◌, ◌++◌, length, set, ℤ, Some, Option, sym, refl, ap, ◌∙◌, subst, inl, inr, append_assoc, arith, length-append}
 use Rattle.std.proofs.lemmas.Bool.{cases_eq, cases_lt, cases_Bool}
 use Rattle.model.specs.Cells.{In}
-use Rattle.text.specs.Expressions.{Arith, Test, value, holds}
+use Rattle.text.specs.Expressions.{Test, holds}
 use Rattle.traces.specs.declared.range.Range.{Range}
 use Rattle.traces.specs.Programs.{Part, assign, sense, skip, if_then, if_else, while, break, block, empty, list, size, begins}
-use Rattle.traces.specs.Traces.{State, ◌▹◌, seen, range_at, stored, Loop, stops, leaves, enters, Stops, Traces}
+use Rattle.traces.specs.Traces.{State, ◌▹◌, seen, range_at, Loop, stops, leaves, enters, Stops, Traces}
 use Rattle.traces.specs.Tables.{Instruction, assigns, senses, goes, branches, table, outcomes, following, each, span}
 use Rattle.traces.proofs.Spans.{span_has, span_only}
 

@@ -1,5 +1,5 @@
 -- The codes of a program's states, which codes are states, the start codes and the next codes. Assumes nothing.
-use Rattle.std.specs.Prelude.{◌≡◌, ℕ, zero, suc, ◌+◌, ◌*◌, ◌/◌, ◌%◌, ◌^◌, ◌<◌, Bool, true, false, cond, ◌&&◌, List, [], ◌∷◌, ◌++◌, length, ℤ, pos, ◌+ℤ◌, ◌==◌, nat_le}
+use Rattle.std.specs.Prelude.{ℕ, zero, suc, ◌+◌, ◌*◌, ◌/◌, ◌%◌, ◌^◌, ◌<◌, Bool, true, cond, ◌&&◌, List, [], ◌∷◌, ◌++◌, length, ℤ, pos, ◌+ℤ◌, ◌==◌, nat_le}
 use Rattle.traces.specs.declared.range.Range.{Range}
 use Rattle.traces.specs.Traces.{State, ◌▹◌}
 use Rattle.traces.specs.Tables.{Instruction, assigns, senses, goes, branches, above, next_states}

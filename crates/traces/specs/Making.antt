@@ -1,5 +1,5 @@
 -- Which ranges four numbers make. Assumes nothing.
-use Rattle.std.specs.Prelude.{◌≡◌, true, false, ℤ, Some, None, Option}
+use Rattle.std.specs.Prelude.{◌≡◌, false, ℤ, Some, None, Option}
 use Rattle.traces.specs.declared.range.Range.{Range}
 use Rattle.traces.specs.Proper.{proper}
 

@@ -1,5 +1,5 @@
 -- Cycle programs as trees, and their labels. Assumes nothing.
-use Rattle.std.specs.Prelude.{◌≡◌, ℕ, zero, suc, ◌+◌, List, [], ◌∷◌, map, ℤ, pos, Some, None, Option, refl}
+use Rattle.std.specs.Prelude.{ℕ, ◌+◌, List, map, pos, Some, None, Option, refl}
 use Rattle.text.specs.Expressions.{Arith, Test}
 use Rattle.traces.specs.declared.range.Range.{Range}
 

@@ -1,5 +1,5 @@
 -- A program as a table of instructions, one for each label, and its steps. Assumes nothing.
-use Rattle.std.specs.Prelude.{◌≡◌, ℕ, zero, suc, ◌+◌, Bool, true, false, cond, List, [], ◌∷◌, ◌++◌, map, length, ℤ, pos, ◌+ℤ◌, ◌-ℤ◌, Some, None, Option, slice_set, unsigned_abs}
+use Rattle.std.specs.Prelude.{◌≡◌, ℕ, zero, suc, ◌+◌, cond, List, [], ◌∷◌, ◌++◌, ℤ, pos, ◌+ℤ◌, ◌-ℤ◌, Some, None, Option, slice_set, unsigned_abs}
 use Rattle.model.specs.Cells.{In, at}
 use Rattle.text.specs.Expressions.{Arith, Test, value, holds}
 use Rattle.traces.specs.declared.range.Range.{Range}

@@ -1,8 +1,8 @@
 -- The prefix traces of a program, rule by rule. Assumes nothing.
-use Rattle.std.specs.Prelude.{◌≡◌, ℕ, zero, suc, ◌+◌, Bool, true, false, cond, ◌⊎◌, List, [], ◌∷◌, ◌++◌, set, ℤ, ◌≤ℤ◌, int_lt, slice_set}
+use Rattle.std.specs.Prelude.{◌≡◌, ℕ, zero, suc, ◌+◌, Bool, true, false, cond, ◌⊎◌, List, [], ◌∷◌, ◌++◌, ℤ, ◌≤ℤ◌, int_lt, slice_set}
 use Rattle.model.specs.declared.moment.Moment.{Moment}
 use Rattle.model.specs.declared.moment.Reading.{Reading}
-use Rattle.text.specs.Expressions.{Arith, Test, value, holds}
+use Rattle.text.specs.Expressions.{value, holds}
 use Rattle.traces.specs.declared.range.Range.{Range}
 use Rattle.traces.specs.Programs.{Part, assign, sense, skip, if_then, if_else, while, break, block, empty, list, size, begins, nil, Tree, ranges}
 

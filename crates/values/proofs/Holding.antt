@@ -1,5 +1,5 @@
 -- Whether a test holds, by the kind of its node. Assumes nothing.
-use Rattle.std.proofs.Common.{◌≡◌, ℕ, zero, suc, ◌<◌, ◌≤◌, Bool, true, false, not, ◌&&◌, ◌||◌, eqb, ◌⊎◌, List, [], ◌∷◌, length, ℤ, pos, negsuc, Some, None, Decides, sym, refl, ap, ◌∙◌, subst, inl, inr, arith, w32, SFits, to_z, of_z, eq-eqb, eqb-true}
+use Rattle.std.proofs.Common.{◌≡◌, ℕ, ◌<◌, ◌≤◌, Bool, true, false, not, ◌&&◌, ◌||◌, eqb, ◌⊎◌, List, length, ℤ, Some, Decides, sym, refl, ap, ◌∙◌, subst, inl, inr, arith, w32, SFits, to_z, of_z, eq-eqb, eqb-true}
 use borrow.Author.Differences.{ints}
 use lib.Signed.{le_z, lt_z}
 use mir.ValLaws.{to_z-of_z}
@@ -9,7 +9,7 @@ use Rattle.model.specs.declared.moment.Moment.{Moment}
 use Rattle.text.specs.declared.node.ArithNode.{ArithNode}
 use Rattle.text.specs.declared.node.TestNode.{TestNode}
 use Rattle.text.specs.declared.node.TestNode.TheVariants.{Always as AlwaysNode, Less as LessNode, AtMost as AtMostNode, Equal as EqualNode, Both as BothNode, Either as EitherNode, NotBoth as NotBothNode}
-use Rattle.text.specs.Expressions.{Arith, Test, always, less, at_most, equal, both, either, not_both, value, holds}
+use Rattle.text.specs.Expressions.{always, less, at_most, equal, both, either, not_both}
 use Rattle.text.specs.Nodes.{ArithAt, TestAt}
 use Rattle.values.specs.Evaluation.{ValueSo, HoldsSo}
 use Rattle.values.proofs.Values.{at_none}

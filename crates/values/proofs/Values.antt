@@ -1,5 +1,5 @@
 -- The value of a node, by its kind. Assumes nothing.
-use Rattle.std.proofs.Common.{◌≡◌, ℕ, zero, suc, ◌+◌, ◌*◌, ◌^◌, ◌<◌, ◌≤◌, ◌⊎◌, List, [], ◌∷◌, ◌++◌, length, get_or, ℤ, pos, negsuc, ◌+ℤ◌, ◌-ℤ◌, neg_ℤ, ◌≤ℤ◌, ◌<ℤ◌, Some, None, sym, refl, ap, ◌∙◌, subst, inl, inr, arith, w32, SFits, to_z, of_z}
+use Rattle.std.proofs.Common.{◌≡◌, ℕ, zero, suc, ◌<◌, ◌≤◌, ◌⊎◌, List, [], ◌∷◌, length, get_or, ℤ, pos, negsuc, ◌+ℤ◌, ◌-ℤ◌, ◌≤ℤ◌, Some, sym, refl, ap, ◌∙◌, subst, inl, inr, arith, w32, SFits, to_z, of_z}
 use borrow.Author.Differences.{ints}
 use mir.ValLaws.{to_z-of_z}
 use Rattle.std.specs.Int.{saturate_to_bits}
@@ -9,8 +9,8 @@ use Rattle.text.specs.declared.word.Register.{Register}
 use Rattle.text.specs.declared.node.ArithNode.{ArithNode}
 use Rattle.text.specs.declared.node.ArithNode.TheVariants.{Number as NumberNode, Current as CurrentNode, Initial as InitialNode, Plus as PlusNode, Minus as MinusNode}
 use Rattle.text.specs.Words.{register_index}
-use Rattle.text.specs.Expressions.{Arith, number, current, initial, plus, minus, register, value}
-use Rattle.text.specs.Nodes.{nodes, Before, ArithAt}
+use Rattle.text.specs.Expressions.{Arith, number, current, initial, plus, minus, register}
+use Rattle.text.specs.Nodes.{nodes, ArithAt}
 use Rattle.values.specs.Evaluation.{ValueSo}
 
 pub at_getD : {X : Type 0} (xs : List X) (i : ℕ) (d : X) → i < length xs → at xs i ≡ Some (get_or xs i d)

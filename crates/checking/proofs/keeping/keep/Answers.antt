@@ -1,8 +1,6 @@
-use Rattle.std.proofs.Common.{◌≡◌, ℕ, ◌+◌, List, length, drop, Some, None, sym, refl, ap, ◌∙◌, subst, arith}
+use Rattle.std.proofs.Common.{◌≡◌, ℕ, ◌+◌, drop, Some, None, sym, ap, subst, arith}
 use Rattle.store.proofs.Laws.{found_known, places_all}
-use Rattle.store.specs.Entries.{entries}
 use Rattle.checking.specs.Keeping.{Sound, KeptSo, old, new, no_place}
-use Rattle.checking.proofs.keeping.keep.Given as given
 use Rattle.checking.proofs.keeping.keep.Goals as goal
 
 pub returns-in-Known : goal.returns-in-Known

@@ -1,4 +1,4 @@
-use Rattle.std.proofs.Common.{ℕ, ◌+◌, drop, Some, None, sym, ◌∙◌, subst, arith}
+use Rattle.std.proofs.Common.{ℕ, ◌+◌, drop, sym, ◌∙◌, subst, arith}
 use Rattle.checking.specs.Opening.{StartSo, Storing}
 use Rattle.checking.proofs.Starts.{storing_none, storing_more, storing_full, storing_all}
 use Rattle.checking.proofs.Turns.{at_none}

@@ -1,4 +1,4 @@
-use Rattle.std.proofs.Common.{◌≡◌, ◌≤◌, [], length, drop}
+use Rattle.std.proofs.Common.{drop}
 use Rattle.checking.specs.Opening.{Storing}
 use Rattle.checking.proofs.opening.store_starts.Given as goal
 

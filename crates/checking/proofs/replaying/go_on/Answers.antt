@@ -1,4 +1,4 @@
-use Rattle.std.proofs.Common.{◌≡◌, sym, refl, ap, ◌∙◌, arith}
+use Rattle.std.proofs.Common.{refl, arith}
 use Rattle.checking.proofs.Histories.{done_none, done_more, done_all, rest_more, rest_all}
 use Rattle.checking.proofs.replaying.go_on.Goals as goal
 

@@ -1,4 +1,4 @@
-use Rattle.std.proofs.Common.{ℕ, min, length, sym, refl, subst, arith}
+use Rattle.std.proofs.Common.{ℕ, min, length, refl, subst, arith}
 use Rattle.checking.specs.declared.calls.Call.TheVariants.{Open}
 use Rattle.checking.specs.declared.phase.Phase.TheVariants.{Filled}
 use Rattle.checking.specs.declared.state.Check.{Check}

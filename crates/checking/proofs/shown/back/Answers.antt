@@ -1,4 +1,4 @@
-use Rattle.std.proofs.Common.{◌≡◌, ◌+◌, ◌-◌, sym, refl, ap, ◌∙◌, arith}
+use Rattle.std.proofs.Common.{◌≡◌, ◌+◌, ◌-◌, sym, ap, ◌∙◌, arith}
 use Rattle.checking.specs.Showing.{back_at, whole}
 use Rattle.checking.proofs.Trails.{back_more}
 use Rattle.checking.proofs.shown.back.Goals as goal

@@ -1,4 +1,4 @@
-use Rattle.std.proofs.Common.{◌≡◌, ℕ, true, false, List, ◌∷◌, ℤ, pos, nat_abs, decimal, sym, ap, ◌∙◌, subst, arith, w16}
+use Rattle.std.proofs.Common.{ℕ, List, ◌∷◌, pos, nat_abs, decimal, sym, ap, ◌∙◌, subst, arith, w16}
 use lib.Signed.{le_z}
 use Rattle.std.proofs.lemmas.Int.{to_z-of_z}
 use Rattle.job.specs.Lines.{Put}

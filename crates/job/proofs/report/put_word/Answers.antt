@@ -1,4 +1,4 @@
-use Rattle.std.proofs.Common.{ℕ, List, length, take, sym, subst, arith, length-take-le}
+use Rattle.std.proofs.Common.{ℕ, List, sym, subst, arith, length-take-le}
 use Rattle.std.proofs.lemmas.List.{take_more, take_all}
 use Rattle.job.specs.Lines.{Put}
 use Rattle.job.proofs.Writing.{put_nothing, put_more}

@@ -1,4 +1,4 @@
-use Rattle.std.proofs.Common.{List, [], ◌∷◌, ◌++◌, codes, arith}
+use Rattle.std.proofs.Common.{[], ◌∷◌, ◌++◌, codes, arith}
 use Rattle.job.specs.Lines.{spaced}
 use Rattle.job.proofs.Writing.{put_more, wrote}
 use Rattle.job.proofs.report.refused_line.Goals as goal

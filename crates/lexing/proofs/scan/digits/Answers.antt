@@ -1,4 +1,4 @@
-use Rattle.std.proofs.Common.{sym, ◌∙◌, arith}
+use Rattle.std.proofs.Common.{sym, arith}
 use Rattle.lexing.specs.Lexing.{is_digit}
 use Rattle.lexing.proofs.Runs.{run_more, run_ends, run_none}
 use Rattle.lexing.proofs.scan.digits.Goals as goal

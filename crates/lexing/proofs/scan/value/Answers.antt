@@ -1,4 +1,4 @@
-use Rattle.std.proofs.Common.{◌≡◌, ◌+◌, ◌-◌, ◌*◌, min, length, take, sym, refl, ap, ◌∙◌, arith, take_all}
+use Rattle.std.proofs.Common.{◌+◌, ◌-◌, ◌*◌, min, take, sym, ap, ◌∙◌, take_all}
 use Rattle.std.proofs.lemmas.List.Sums.{fold_more}
 use Rattle.lexing.specs.Lexing.{decimal}
 use Rattle.lexing.proofs.Runs.{cut_off}

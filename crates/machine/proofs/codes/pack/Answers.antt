@@ -1,5 +1,4 @@
-use Rattle.std.proofs.Common.{◌≡◌, ◌-◌, ◌^◌, ◌<◌, ◌≤◌, get_or, drop, pos, ◌≤ℤ◌, sym, refl, ap, ◌∙◌, arith, w16, SFits, rules}
-use Rattle.std.proofs.lemmas.Int.{ints, to_z-of_z}
+use Rattle.std.proofs.Common.{◌-◌, get_or, drop, pos, ◌≤ℤ◌, sym, refl, ap, ◌∙◌, arith}
 use Rattle.std.proofs.lemmas.List.{drop_all}
 use Rattle.traces.specs.Codes.{packed}
 use Rattle.traces.specs.Tables.{above}

@@ -1,4 +1,4 @@
-use Rattle.std.proofs.Common.{◌≡◌, length, take, drop}
+use Rattle.std.proofs.Common.{◌≡◌, drop}
 use Rattle.traces.specs.Codes.{packed}
 use Rattle.machine.proofs.codes.pack.Given as goal
 

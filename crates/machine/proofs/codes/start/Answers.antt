@@ -1,4 +1,4 @@
-use Rattle.std.proofs.Common.{◌≡◌, ℕ, ◌+◌, ◌-◌, ◌*◌, ◌%◌, ◌^◌, ◌<◌, ◌≤◌, get_or, drop, sym, refl, ap, ◌∙◌, arith}
+use Rattle.std.proofs.Common.{◌≡◌, ◌+◌, ◌*◌, ◌%◌, ◌^◌, ◌≤◌, get_or, arith}
 use Rattle.traces.specs.Tables.{above}
 use Rattle.machine.proofs.Digits.{rest_below, start_more, start_digit, weight_room, weight_more, digit_room, start_all}
 use Rattle.machine.proofs.codes.start.Goals as goal

@@ -1,7 +1,5 @@
-use Rattle.std.proofs.Common.{◌≡◌, ℕ, ◌+◌, ◌%◌, ◌<◌, ◌≤◌, length, get_or, sym, refl, ap, ◌∙◌, arith, length-set, rules}
-use Rattle.std.proofs.lemmas.Int.{ints, to_z-of_z}
+use Rattle.std.proofs.Common.{◌≡◌, ◌%◌, length, get_or, ◌∙◌, arith, length-set}
 use Rattle.traces.specs.Tables.{above}
-use Rattle.traces.specs.Codes.{in_range}
 use Rattle.machine.proofs.Digits.{back_digit, in_range_more, in_range_stops, unpacked_more, none_since, in_range_ends, some_since}
 use Rattle.machine.proofs.codes.unpack.Goals as goal
 

@@ -1,6 +1,5 @@
-use Rattle.std.proofs.Common.{◌≡◌, ◌≤◌, length, None, vec_items, sym, ap, ◌∙◌, subst, arith}
+use Rattle.std.proofs.Common.{None, vec_items, sym, ◌∙◌, subst, arith}
 use Rattle.text.proofs.Stands.{vec_long}
-use Rattle.traces.specs.Programs.{size}
 use Rattle.traces.proofs.Links.{drafts}
 use Rattle.program.specs.Outcomes.{DraftsFor}
 use Rattle.program.proofs.Linking.{as_long}

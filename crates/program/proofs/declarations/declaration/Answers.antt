@@ -1,4 +1,4 @@
-use Rattle.std.proofs.Common.{◌≡◌, sym, refl, ap, ◌∙◌, subst, arith}
+use Rattle.std.proofs.Common.{refl, ◌∙◌, arith}
 use Rattle.text.proofs.Parts.{broken}
 use Rattle.program.proofs.Bounding.{same, proper_same}
 use Rattle.program.proofs.Headed.{letter_none, first_stopped, second_stopped, third_stopped, fourth_stopped, close_none, out_of_range, too_many, declared_read}

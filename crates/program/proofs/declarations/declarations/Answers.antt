@@ -1,4 +1,4 @@
-use Rattle.std.proofs.Common.{◌≡◌, ◌∷◌, sym, refl, ap, ◌∙◌, subst}
+use Rattle.std.proofs.Common.{subst}
 use Rattle.text.proofs.Parts.{broken}
 use Rattle.program.specs.Headers.{HeaderRead}
 use Rattle.program.proofs.declarations.declarations.Goals as goal

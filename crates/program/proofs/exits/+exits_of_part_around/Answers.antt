@@ -1,4 +1,4 @@
-use Rattle.std.proofs.Common.{◌≡◌, ◌<◌, length, sym, refl, ap, ◌∙◌, arith, rules}
+use Rattle.std.proofs.Common.{◌<◌, length, sym, ap, ◌∙◌, arith, rules}
 use Rattle.program.specs.declared.exits.Around.{Around}
 use Rattle.program.proofs.Linking.{owner_get, owner_before, around_none, around_some, exits_are}
 use Rattle.program.proofs.exits.+exits_of_part_around.Goals as goal

@@ -1,4 +1,4 @@
-use Rattle.std.proofs.Common.{◌≡◌, ◌<◌, [], ◌∷◌, ◌++◌, length, None, vec_items, vec_len, sym, refl, ap, ◌∙◌, subst, arith}
+use Rattle.std.proofs.Common.{[], ◌∷◌, ◌++◌, None, vec_items, ap, ◌∙◌, arith}
 use Rattle.text.specs.declared.word.Register.TheVariants.{A as ra}
 use Rattle.program.specs.declared.draft.Kind.TheVariants.{Set}
 use Rattle.program.proofs.Tables.{small, link_more, link_all}

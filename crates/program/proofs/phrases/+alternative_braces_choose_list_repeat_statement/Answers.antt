@@ -1,14 +1,14 @@
-use Rattle.std.proofs.Common.{◌≡◌, ℕ, ◌+◌, ◌<◌, true, List, [], ◌∷◌, length, vec_items, vec_len, sym, refl, ap, ◌∙◌, subst, inl, inr, arith, lit≤}
+use Rattle.std.proofs.Common.{true, ◌∷◌, sym, refl, subst, arith, lit≤}
 use Rattle.grammar.specs.Grammars.{Quiet}
-use Rattle.text.specs.declared.word.Token.TheVariants.{If, While, OpenBrace, CloseBrace}
+use Rattle.text.specs.declared.word.Token.TheVariants.{If, While, CloseBrace}
 use Rattle.text.specs.Table.{statement, other, end_while, rules_of}
 use Rattle.text.proofs.Tests.{is_token}
 use Rattle.text.proofs.Parts.{broken}
 use Rattle.program.proofs.Chains.{part_many, part_deep, part_guard, brace_deep, brace_stops, brace_end, brace_goes}
-use Rattle.program.proofs.Parts.{phrase_stops, stopped_at, longer, pushed_long}
+use Rattle.program.proofs.Parts.{phrase_stops, longer, pushed_long}
 use Rattle.std.proofs.lemmas.Bool.Decides.{when_true}
 use Rattle.program.proofs.Shorter.{phrase_shorter}
-use Rattle.program.proofs.Compounds.{Entered, entered_stops, repeat_read, choose_stopped, choose_read, list_none, list_more, list_stopped, braces_read, no_brace, no_statement, refused, else_longer}
+use Rattle.program.proofs.Compounds.{entered_stops, repeat_read, choose_stopped, choose_read, list_none, list_more, list_stopped, braces_read, no_brace, no_statement, refused, else_longer}
 use Rattle.program.proofs.phrases.+alternative_braces_choose_list_repeat_statement.Goals as goal
 
 pub braces-returns-then-site-eq0 : goal.braces-returns-then-site-eq0

@@ -1,4 +1,4 @@
-use Rattle.std.proofs.Common.{◌∙◌, inl, inr}
+use Rattle.std.proofs.Common.{◌∙◌, inr}
 use Rattle.program.proofs.Answering.{faultless, faulty}
 use Rattle.program.proofs.reading.read.Goals as goal
 

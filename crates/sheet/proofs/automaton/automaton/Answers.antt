@@ -1,4 +1,4 @@
-use Rattle.std.proofs.Common.{◌≡◌, ℕ, ◌-◌, List, [], ◌∷◌, ◌++◌, length, get_or, drop, replicate, vec_items, vec_len, sym, refl, ap, ◌∙◌, arith}
+use Rattle.std.proofs.Common.{◌≡◌, ℕ, List, [], length, get_or, drop, replicate, vec_items, ap, ◌∙◌}
 use Rattle.sheet.specs.declared.tree.Summary.{Summary}
 use Rattle.sheet.specs.Passes.{nothing, all_summaries, links}
 use Rattle.sheet.proofs.Passing.{take_all, links_length}

@@ -1,4 +1,4 @@
-use Rattle.std.proofs.Common.{◌≡◌, ℕ, List, [], ◌∷◌, ◌++◌, vec_items, refl, ap, ◌∙◌, arith}
+use Rattle.std.proofs.Common.{ℕ, List, [], ◌∷◌, ◌++◌, vec_items, refl, ap, ◌∙◌, arith}
 use Rattle.text.proofs.Lists.{empty_list}
 use Rattle.sheet.proofs.Passing.{replicate_push}
 use Rattle.sheet.proofs.automaton.clear.Goals as goal

@@ -1,4 +1,4 @@
-use Rattle.std.proofs.Common.{◌≡◌, length}
+use Rattle.std.proofs.Common.{◌≡◌}
 use Rattle.regular.specs.Sets.{gain}
 use Rattle.sheet.proofs.automaton.join.Given as goal
 

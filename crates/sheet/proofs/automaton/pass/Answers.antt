@@ -1,4 +1,4 @@
-use Rattle.std.proofs.Common.{◌≡◌, ℕ, List, get_or, vec_items, ap, ◌∙◌, arith}
+use Rattle.std.proofs.Common.{List, get_or, vec_items, ap, ◌∙◌, arith}
 use Rattle.std.proofs.ByRecursion.{All-get_or}
 use Rattle.sheet.specs.declared.tree.Node.TheVariants.{Empty}
 use Rattle.sheet.specs.declared.tree.Summary.{Summary}

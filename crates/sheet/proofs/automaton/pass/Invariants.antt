@@ -1,4 +1,4 @@
-use Rattle.std.proofs.Common.{◌≡◌, ◌+◌, ◌≤◌, length, drop, vec_items, vec_len, vec_capacity}
+use Rattle.std.proofs.Common.{◌≡◌, ◌+◌, drop, vec_items, vec_len, vec_capacity}
 use Rattle.sheet.specs.Passes.{all_summaries, links}
 use Rattle.sheet.proofs.automaton.pass.Given as goal
 

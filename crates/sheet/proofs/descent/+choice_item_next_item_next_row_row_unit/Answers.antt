@@ -1,12 +1,11 @@
-use Rattle.std.proofs.Common.{◌≡◌, ℕ, ◌<◌, List, [], ◌∷◌, length, sym, refl, ap, ◌∙◌, subst, arith}
+use Rattle.std.proofs.Common.{◌<◌, [], ◌∷◌, length, sym, refl, ap, subst, arith}
 use Rattle.std.proofs.lemmas.Result.{MatchResult-weaker}
-use Rattle.text.specs.declared.word.Word.{Word}
 use Rattle.text.proofs.Parts.{broken}
 use Rattle.text.specs.Table.{unit as unit_item}
 use Rattle.sheet.specs.Texts.{NoItem}
-use Rattle.sheet.specs.Owed.{Stops, RowStops, TailStops}
+use Rattle.sheet.specs.Owed.{Stops}
 use Rattle.sheet.proofs.Items.{stopped_at}
-use Rattle.sheet.proofs.Rows.{unit_at, item_read, item_unit_stopped, item_repeats_stopped, next_item, rowing_none, rowing_more, row_read, row_first_stopped, row_stopped, next_row, next_row_stopped, next_row_many, choosing_none, choosing_more, choice_read, choice_stopped, group_read, group_inner_stopped, group_open, group_deep, unit_refused, shorter}
+use Rattle.sheet.proofs.Rows.{unit_at, item_read, item_unit_stopped, item_repeats_stopped, next_item, rowing_more, row_read, row_first_stopped, row_stopped, next_row, next_row_stopped, next_row_many, choosing_more, choice_read, choice_stopped, group_read, group_inner_stopped, group_open, group_deep, unit_refused, shorter}
 use Rattle.sheet.proofs.descent.+choice_item_next_item_next_row_row_unit.Goals as goal
 
 pub choice-returns-in_err-read-2 : goal.choice-returns-in_err-read-2

@@ -1,10 +1,9 @@
-use Rattle.std.proofs.Common.{◌≡◌, ℕ, List, [], ◌∷◌, sym, refl, ap, ◌∙◌, subst}
+use Rattle.std.proofs.Common.{[], ◌∷◌, sym, subst}
 use Rattle.std.proofs.lemmas.Result.{MatchResult-weaker}
 use Rattle.text.specs.declared.word.Token.TheVariants.{Star, Plus}
-use Rattle.text.specs.declared.word.Word.{Word}
 use Rattle.text.specs.Derivations.{Free}
 use Rattle.text.proofs.Parts.{broken}
-use Rattle.sheet.specs.Owed.{RepeatsRead, RepeatsStop, Stopped}
+use Rattle.sheet.specs.Owed.{RepeatsStop}
 use Rattle.sheet.proofs.Items.{stopped_at, stopped_on}
 use Rattle.sheet.proofs.Rows.{repeats_at, repeats_none, repeats_star, repeats_plus, star_stops, plus_stops, star_many, plus_many}
 use Rattle.sheet.proofs.descent.+repeats.Goals as goal

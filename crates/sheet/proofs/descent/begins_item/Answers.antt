@@ -1,6 +1,4 @@
-use Rattle.std.proofs.Common.{◌≡◌, ℕ, ◌⊎◌, inl, inr}
-use Rattle.text.specs.declared.word.Token.TheVariants.{Empty, OpenParen, Question, Number}
-use Rattle.text.specs.declared.word.Word.{Word}
+use Rattle.std.proofs.Common.{inl, inr}
 use Rattle.sheet.specs.Owed.{ItemWord, at_empty, at_open, at_question, at_number}
 use Rattle.sheet.proofs.descent.begins_item.Goals as goal
 

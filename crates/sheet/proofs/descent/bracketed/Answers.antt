@@ -1,4 +1,4 @@
-use Rattle.std.proofs.Common.{◌≡◌, List, [], ◌∷◌, sym, refl, subst, arith, lit≤}
+use Rattle.std.proofs.Common.{List, [], ◌∷◌, sym, refl, subst, arith, lit≤}
 use Rattle.grammar.specs.Grammars.{Quiet}
 use Rattle.text.specs.declared.word.Token.TheVariants.{OpenBracket, CloseBracket}
 use Rattle.text.specs.declared.word.Word.{Word}

@@ -1,4 +1,4 @@
-use Rattle.std.proofs.Common.{◌≡◌, refl}
+use Rattle.std.proofs.Common.{refl}
 use Rattle.sheet.proofs.Items.{empty_many, empty_read}
 use Rattle.sheet.proofs.descent.empty.Goals as goal
 

@@ -1,7 +1,6 @@
-use Rattle.std.proofs.Common.{◌≡◌, ℕ, ◌<◌, ◌≤◌, vec_len, refl, subst, arith}
+use Rattle.std.proofs.Common.{ℕ, ◌<◌, vec_len, refl, subst, arith}
 use Rattle.std.proofs.lemmas.Result.{MatchResult-weaker}
 use Rattle.text.proofs.Parts.{broken}
-use Rattle.regular.specs.Sets.{with}
 use Rattle.sheet.specs.Owed.{LabelsRead}
 use Rattle.sheet.proofs.Items.{number_read, number_labels_stopped, number_stopped, number_too_large, number_too_many}
 use Rattle.sheet.proofs.descent.numbered.Goals as goal

@@ -1,4 +1,4 @@
-use Rattle.std.proofs.Common.{◌≡◌, ◌<◌, vec_len, refl, arith}
+use Rattle.std.proofs.Common.{◌<◌, vec_len, refl, arith}
 use Rattle.std.proofs.lemmas.Result.{MatchResult-weaker}
 use Rattle.sheet.proofs.Items.{question_read, question_stopped, question_many}
 use Rattle.sheet.proofs.descent.question.Goals as goal

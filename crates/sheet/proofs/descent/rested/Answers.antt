@@ -1,7 +1,6 @@
-use Rattle.std.proofs.Common.{◌≡◌, ℕ, ◌<◌, List, [], ◌∷◌, length, vec_len, sym, refl, ap, arith}
+use Rattle.std.proofs.Common.{◌<◌, length, vec_len, sym, refl, arith}
 use Rattle.std.proofs.lemmas.Bool.{eqb-true, eqb-false}
 use Rattle.text.proofs.Lists.{empty_list}
-use Rattle.text.specs.declared.word.Word.{Word}
 use Rattle.sheet.proofs.Wholes.{rest_many, rest_more, rest_read, first_word}
 use Rattle.sheet.proofs.descent.rested.Goals as goal
 

@@ -1,4 +1,4 @@
-use Rattle.std.proofs.Common.{◌≡◌, refl}
+use Rattle.std.proofs.Common.{refl}
 use Rattle.text.proofs.Parts.{broken}
 use Rattle.sheet.proofs.Items.{tested_read, tested_refused, tested_stopped}
 use Rattle.sheet.proofs.descent.tested.Goals as goal

@@ -1,13 +1,12 @@
-use Rattle.std.proofs.Common.{◌≡◌, ℕ, List, [], ◌∷◌, length, sym, refl, ap, ◌∙◌, subst, arith}
+use Rattle.std.proofs.Common.{ℕ, List, [], ◌∷◌, sym, refl, ap, ◌∙◌, subst}
 use Rattle.std.proofs.lemmas.Result.{MatchResult-weaker}
 use Rattle.grammar.specs.Grammars.{Quiet}
 use Rattle.text.specs.declared.word.Token.TheVariants.{Comma}
 use Rattle.text.specs.declared.word.Word.{Word}
 use Rattle.text.specs.Derivations.{Free}
 use Rattle.text.specs.Table.{label, rules_of}
-use Rattle.regular.specs.Sets.{with}
-use Rattle.sheet.specs.Owed.{LabelsRead, LabelsStop, Stopped}
-use Rattle.sheet.proofs.Going.{quiet_label, quiet_label_word}
+use Rattle.sheet.specs.Owed.{LabelsRead, LabelsStop}
+use Rattle.sheet.proofs.Going.{quiet_label_word}
 use Rattle.sheet.proofs.Items.{stopped_at, stopped_on, labels_none, labels_refused, labels_large, labels_more, labels_stop_more}
 use Rattle.sheet.proofs.labels.+more_labels.Goals as goal
 

@@ -1,4 +1,4 @@
-use Rattle.std.proofs.Common.{◌≡◌, sym, refl, ap, ◌∙◌, subst, inl, inr}
+use Rattle.std.proofs.Common.{◌∙◌, inr}
 use Rattle.sheet.proofs.Finished.{laid_down}
 use Rattle.sheet.proofs.Answering.{faultless, faulty}
 use Rattle.sheet.proofs.reading.read.Goals as goal

@@ -1,4 +1,4 @@
-use Rattle.std.proofs.Common.{ℕ, ◌/◌, ◌^◌, eqb, sym, ap, arith}
+use Rattle.std.proofs.Common.{ℕ, ◌/◌, ◌^◌, eqb, sym, ap}
 use lib.Bits.{and_mask}
 use Rattle.sheet.proofs.Turns.{has_far}
 use Rattle.sheet.proofs.sets.has.Goals as goal

@@ -1,5 +1,5 @@
 -- A mask of a power of two less one is a remainder.
-use Rattle.std.proofs.Common.{◌≡◌, ℕ, ◌-◌, ◌/◌, ◌%◌, ◌^◌, ◌<◌, sym, refl, ap, ◌∙◌, subst}
+use Rattle.std.proofs.Common.{◌≡◌, ℕ, ◌-◌, ◌/◌, ◌%◌, ◌^◌, ◌<◌, sym, ap, ◌∙◌, subst}
 use lib.Bits.{bit_and, bit_xor}
 use Rattle.model.specs.Keys.{spread}
 use Rattle.std.proofs.lemmas.Nat.{and_mask, mod_below, pow_pos}

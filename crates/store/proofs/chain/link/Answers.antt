@@ -1,5 +1,5 @@
 -- The two writes of a link.
-use Rattle.std.proofs.Common.{◌≡◌, ◌<◌, length, ap, ◌∙◌, add-one, arith, rules}
+use Rattle.std.proofs.Common.{◌<◌, length, ◌∙◌, add-one, arith, rules}
 use Rattle.store.specs.Chains.{bucket_of}
 use Rattle.store.proofs.Amends.{pick_read}
 use Rattle.store.proofs.Growth.{linked_is}

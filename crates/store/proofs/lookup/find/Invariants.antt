@@ -1,5 +1,5 @@
 -- No stored place at or above the link has the key, and links fall.
-use Rattle.std.proofs.Common.{◌≤◌, length}
+use Rattle.std.proofs.Common.{◌≤◌}
 use Rattle.store.proofs.Walks.{Walks}
 use Rattle.store.proofs.lookup.find.Given as goal
 

@@ -1,7 +1,6 @@
-use Rattle.std.proofs.Common.{◌≡◌, ℕ, ◌<◌, List, [], ◌∷◌, length, sym, refl, ap, ◌∙◌, subst, arith, lit≤, rules}
+use Rattle.std.proofs.Common.{[], ◌∷◌, length, sym, refl, ap, subst, arith, lit≤}
 use Rattle.text.specs.declared.word.Token.TheVariants.{OpenParen, CloseParen}
 use Rattle.text.specs.Table.{operand, more, close_paren}
-use Rattle.text.specs.Reading.{Skipped}
 use Rattle.text.proofs.Tests.{is_token}
 use Rattle.text.proofs.Going.{bracket_goes, bracket_deep, bracket_inner, bracket_open, quiet_operand}
 use Rattle.text.proofs.Parts.{broken, stops_by, stopped_at, read_at, refused_at, join_many, join_stopped, join_read, turned_none, turned_more, sum_read, sum_stopped, sum_stopped_first, group_read, grouped, shorter}

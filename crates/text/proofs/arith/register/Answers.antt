@@ -1,4 +1,4 @@
-use Rattle.std.proofs.Common.{◌∷◌, sym, refl, ◌∙◌, arith}
+use Rattle.std.proofs.Common.{◌∷◌, sym, refl, arith}
 use Rattle.text.proofs.Going.{register_goes, register_unknown, register_many}
 use Rattle.text.proofs.Parts.{broken, stops_by, named_found, named_read}
 use Rattle.text.proofs.arith.register.Goals as goal

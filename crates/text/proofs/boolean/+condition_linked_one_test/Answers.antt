@@ -1,7 +1,6 @@
-use Rattle.std.proofs.Common.{◌≡◌, ℕ, ◌<◌, List, [], ◌∷◌, length, sym, refl, ap, ◌∙◌, subst, arith, lit≤}
+use Rattle.std.proofs.Common.{[], ◌∷◌, length, sym, refl, ap, subst, arith, lit≤}
 use Rattle.grammar.specs.Grammars.{Quiet}
-use Rattle.text.specs.declared.word.Token.TheVariants.{True, OpenBracket, CloseBracket}
-use Rattle.text.specs.Derivations.{Free}
+use Rattle.text.specs.declared.word.Token.TheVariants.{OpenBracket, CloseBracket}
 use Rattle.text.specs.Table.{one_test, joined, close_bracket, rules_of}
 use Rattle.text.proofs.Tests.{is_token}
 use Rattle.text.proofs.Going.{bracket_goes, bracket_deep, bracket_inner, bracket_open}

@@ -1,4 +1,4 @@
-use Rattle.std.proofs.Common.{arith, rules}
+use Rattle.std.proofs.Common.{rules}
 use Rattle.text.proofs.Lists.{empty_list, front}
 use Rattle.text.proofs.reading.first.Goals as goal
 

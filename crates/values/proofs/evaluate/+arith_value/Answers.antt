@@ -1,4 +1,4 @@
-use Rattle.std.proofs.Common.{◌≡◌, ◌<◌, pos, ◌+ℤ◌, ◌-ℤ◌, Some, sym, refl, ap, ◌∙◌, subst, arith, w32, SFits, to_z, of_z, rules}
+use Rattle.std.proofs.Common.{◌<◌, ◌+ℤ◌, ◌-ℤ◌, Some, ap, ◌∙◌, arith, w32, SFits, to_z, of_z, rules}
 use mir.ValLaws.{to_z-of_z}
 use Rattle.std.specs.Int.{saturate_to_bits}
 use Rattle.values.proofs.Values.{at_getD, value_none, value_number, value_current, value_initial, value_loop_plus, value_loop_minus, value_plus, value_minus, through}

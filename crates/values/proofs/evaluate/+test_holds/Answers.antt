@@ -1,4 +1,4 @@
-use Rattle.std.proofs.Common.{◌≡◌, ◌&&◌, Some, sym, refl, ap, ◌∙◌, subst, arith, w32, SFits, to_z, of_z, rules}
+use Rattle.std.proofs.Common.{Some, refl, ap, ◌∙◌, arith, w32, SFits, to_z, of_z, rules}
 use lib.Signed.{le_z, lt_z}
 use mir.ValLaws.{to_z-of_z}
 use Rattle.values.proofs.Values.{at_getD}

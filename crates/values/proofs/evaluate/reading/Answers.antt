@@ -1,4 +1,4 @@
-use Rattle.std.proofs.Common.{◌≡◌, ◌<◌, length, get_or, pos, sym, refl, ap, ◌∙◌, subst, arith, w16, w32, SFits, to_z, of_z, rules}
+use Rattle.std.proofs.Common.{◌≡◌, length, get_or, pos, sym, ap, ◌∙◌, arith, w16, w32, SFits, rules}
 use borrow.Author.Differences.{ints}
 use mir.ValLaws.{to_z-of_z}
 use Rattle.text.specs.Words.{register_index}

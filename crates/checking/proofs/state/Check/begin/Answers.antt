@@ -1,4 +1,4 @@
-use Rattle.std.proofs.Common.{sym, refl, ◌∙◌}
+use Rattle.std.proofs.Common.{refl}
 use Rattle.checking.proofs.Starts.{begun_failing, begun_storing}
 use Rattle.checking.proofs.state.Check.begin.Goals as goal
 

@@ -1,4 +1,4 @@
-use Rattle.std.proofs.Common.{sym, refl, ap, ◌∙◌}
+use Rattle.std.proofs.Common.{refl, ap, ◌∙◌}
 use Rattle.checking.specs.Standing.{answer, after}
 use Rattle.checking.proofs.Starts.{told_so}
 use Rattle.checking.proofs.state.Check.open.Goals as goal

@@ -1,4 +1,4 @@
-use Rattle.std.proofs.Common.{◌≡◌, ℕ, ◌+◌, ◌<◌, cond, ltb, List, [], ◌∷◌, ◌++◌, length, get_or, set, sym, refl, ap, ◌∙◌, subst}
+use Rattle.std.proofs.Common.{◌+◌, cond, ltb, get_or, sym, ap, ◌∙◌, subst}
 use Rattle.levels.specs.Units.{trail}
 use Rattle.checking.specs.Showing.{whole, shown, Handed}
 use Rattle.checking.specs.Standing.{phase_of}

@@ -1,4 +1,4 @@
-use Rattle.std.proofs.Common.{length, Some, None, sym, refl, ap, ◌∙◌, subst, arith}
+use Rattle.std.proofs.Common.{Some, sym, refl, ap, ◌∙◌, subst, arith}
 use Rattle.model.specs.declared.refusal.Cause.TheVariants.{Beyond}
 use Rattle.model.specs.declared.refusal.Layer.TheVariants.{Check}
 use Rattle.levels.specs.Units.{last_at}

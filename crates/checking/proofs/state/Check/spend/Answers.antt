@@ -1,5 +1,5 @@
-use Rattle.std.proofs.Common.{◌≡◌, ℕ, ◌+◌, ◌-◌, sym, refl, ap, ◌∙◌, subst, add-zero, add_assoc, arith}
-use Rattle.checking.specs.Standing.{Adds, Stands}
+use Rattle.std.proofs.Common.{◌≡◌, ℕ, ◌+◌, ◌-◌, sym, ◌∙◌, subst, add-zero, add_assoc, arith}
+use Rattle.checking.specs.Standing.{Stands}
 use Rattle.checking.proofs.Turns.{adds_none, adds_trans}
 use Rattle.checking.proofs.Standings.{settled_more}
 use Rattle.checking.proofs.state.Check.spend.Goals as goal

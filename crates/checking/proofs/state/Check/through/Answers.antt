@@ -1,4 +1,4 @@
-use Rattle.std.proofs.Common.{◌≡◌, ◌+◌, length, drop, Some, None, sym, ap, ◌∙◌, subst, arith}
+use Rattle.std.proofs.Common.{◌+◌, drop, sym, ◌∙◌, subst, arith}
 use Rattle.store.proofs.Walks.{place_in}
 use Rattle.checking.specs.Standing.{Adds, Goes, Countable, phase_of}
 use Rattle.checking.proofs.Turns.{adds_none, adds_trans, met_adds, at_none, goes_none, goes_more, goes_all}

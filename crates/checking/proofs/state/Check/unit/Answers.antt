@@ -1,4 +1,4 @@
-use Rattle.std.proofs.Common.{◌≡◌, get_or, sym, refl, ap, ◌∙◌, subst, arith}
+use Rattle.std.proofs.Common.{get_or, sym, refl, ap, ◌∙◌, arith}
 use Rattle.store.proofs.Laws.{entry_read}
 use Rattle.store.specs.Entries.{entry}
 use Rattle.checking.proofs.Turns.{adds_none, adds_trans, adds_same}

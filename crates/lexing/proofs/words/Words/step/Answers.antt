@@ -1,5 +1,5 @@
-use Rattle.std.proofs.Common.{◌≡◌, ℕ, ◌+◌, ◌<◌, ◌≤◌, true, false, List, [], ◌∷◌, ◌++◌, length, get_or, drop, vec_items, sym, refl, ap, ◌∙◌, subst, arith, rules}
-use Rattle.lexing.specs.Lexing.{separates, token_at, size_at, words_from}
+use Rattle.std.proofs.Common.{◌+◌, ◌<◌, ◌≤◌, true, false, ◌++◌, length, drop, vec_items, sym, ap, ◌∙◌, arith, rules}
+use Rattle.lexing.specs.Lexing.{separates, words_from}
 use Rattle.lexing.proofs.Runs.{part_is, part_first, separator_step, step_within, step_onward, word_same}
 use Rattle.lexing.proofs.words.Words.step.Goals as goal
 

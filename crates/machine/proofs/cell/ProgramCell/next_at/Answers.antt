@@ -1,6 +1,5 @@
-use Rattle.std.proofs.Common.{◌≡◌, length, Some, sym, ap, ◌∙◌, subst}
+use Rattle.std.proofs.Common.{length, Some, sym, ap, ◌∙◌}
 use Rattle.model.specs.Cells.{at}
-use Rattle.traces.specs.Traces.{State}
 use Rattle.traces.specs.Tables.{next_states}
 use Rattle.traces.specs.Codes.{state_of}
 use Rattle.traces.proofs.Laws.{is_sound, nexts_are, next_fits}

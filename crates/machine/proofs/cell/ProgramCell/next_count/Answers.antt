@@ -1,4 +1,4 @@
-use Rattle.std.proofs.Common.{◌≡◌, length, sym, ap, ◌∙◌}
+use Rattle.std.proofs.Common.{length, sym, ap, ◌∙◌}
 use Rattle.traces.specs.Tables.{next_states}
 use Rattle.traces.specs.Codes.{state_of}
 use Rattle.traces.proofs.Laws.{nexts_are, codes_length}

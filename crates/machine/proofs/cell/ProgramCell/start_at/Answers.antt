@@ -1,4 +1,4 @@
-use Rattle.std.proofs.Common.{sym, ◌∙◌, arith}
+use Rattle.std.proofs.Common.{sym, arith}
 use Rattle.traces.specs.Codes.{start_codes}
 use Rattle.traces.proofs.Begins.{start_length, at_end}
 use Rattle.machine.proofs.cell.ProgramCell.start_at.Goals as goal

@@ -1,4 +1,4 @@
-use Rattle.std.proofs.Common.{◌≡◌, cond, sym, ap, ◌∙◌}
+use Rattle.std.proofs.Common.{◌≡◌, cond, ap, ◌∙◌}
 use Rattle.text.specs.Expressions.{holds}
 use Rattle.traces.specs.Traces.{seen, ◌▹◌}
 use Rattle.machine.specs.Trees.{ariths_of, tests_of}

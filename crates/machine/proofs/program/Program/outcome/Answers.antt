@@ -1,4 +1,4 @@
-use Rattle.std.proofs.Common.{◌≡◌, true, length, get_or, vec_items, sym, ap, ◌∙◌, subst, arith}
+use Rattle.std.proofs.Common.{length, get_or, vec_items, sym, ap, ◌∙◌, arith}
 use Rattle.model.specs.Cells.{at}
 use Rattle.text.specs.declared.word.Register.TheVariants.{A as ra}
 use Rattle.machine.specs.declared.statement.Statement.TheVariants.{Set}

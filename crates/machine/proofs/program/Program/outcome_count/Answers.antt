@@ -1,5 +1,4 @@
-use Rattle.std.proofs.Common.{◌≡◌, ℕ, suc, ◌<◌, true, ◌⊎◌, List, length, get_or, vec_items, sym, refl, ap, ◌∙◌, subst, inl, inr, arith}
-use Rattle.model.specs.Cells.{at}
+use Rattle.std.proofs.Common.{◌≡◌, ℕ, suc, ◌<◌, ◌⊎◌, List, length, get_or, vec_items, sym, ap, ◌∙◌, inl, inr, arith}
 use Rattle.text.specs.declared.word.Register.TheVariants.{A as ra}
 use Rattle.traces.specs.Tables.{next_states}
 use Rattle.machine.specs.declared.program.Program.{Program}

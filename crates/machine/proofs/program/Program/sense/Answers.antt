@@ -1,4 +1,4 @@
-use Rattle.std.proofs.Common.{◌≡◌, ℕ, ◌<◌, ◌≤◌, length, get_or, set, Some, sym, refl, ap, ◌∙◌, arith, w16, to_z, of_z}
+use Rattle.std.proofs.Common.{◌≡◌, ℕ, ◌<◌, ◌≤◌, get_or, set, Some, sym, ap, ◌∙◌, arith, w16, to_z, of_z}
 use Rattle.text.specs.declared.word.Register.{Register}
 use Rattle.machine.specs.declared.program.Program.{Program}
 use Rattle.machine.proofs.Digits.{back_digit}

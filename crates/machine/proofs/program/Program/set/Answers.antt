@@ -1,4 +1,4 @@
-use Rattle.std.proofs.Common.{◌≡◌, get_or, sym, ap, ◌∙◌, w32, SFits, rules}
+use Rattle.std.proofs.Common.{◌≡◌, get_or, ap, ◌∙◌, w32, SFits, rules}
 use Rattle.text.specs.Words.{register_index}
 use Rattle.text.specs.Expressions.{value}
 use Rattle.traces.specs.Traces.{seen, kept}

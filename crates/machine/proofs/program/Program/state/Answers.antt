@@ -1,5 +1,5 @@
-use Rattle.std.proofs.Common.{◌≡◌, ◌/◌, ◌%◌, ◌^◌, length, vec_items, sym, ap, ◌∙◌, arith}
-use Rattle.traces.proofs.Laws.{Sound, is_sound}
+use Rattle.std.proofs.Common.{◌≡◌, length, vec_items, sym, ap, ◌∙◌, arith}
+use Rattle.traces.proofs.Laws.{is_sound}
 use Rattle.machine.specs.declared.program.Program.{Program}
 use Rattle.machine.specs.Trees.{ariths_of, tests_of}
 use Rattle.machine.specs.Cells.{instructions}

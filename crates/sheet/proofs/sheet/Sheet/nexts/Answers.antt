@@ -1,7 +1,7 @@
 use native.Mathlib.Nat.{ℕ_set}
 use mathlib.Core.Logic.{∥∥₁_elim}
-use Rattle.std.proofs.Common.{◌≡◌, sym, ap, ◌∙◌}
-use Rattle.regular.specs.Automaton.{nexts, firsts}
+use Rattle.std.proofs.Common.{sym, ap, ◌∙◌}
+use Rattle.regular.specs.Automaton.{nexts}
 use Rattle.sheet.specs.Sheets.{tree_of}
 use Rattle.sheet.proofs.sheet.Sheet.nexts.Goals as goal
 
