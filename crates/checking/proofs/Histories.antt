@@ -12,10 +12,10 @@ use Rattle.checking.specs.declared.state.Check.{Check}
 use Rattle.checking.specs.Replay.{History, granted, due, Keeps, Pays, Responds, places, history, Replayed}
 use Rattle.checking.proofs.Turns.{beyond_more}
 
-at_getD : {A : Type 0} (xs : List A) (i : ℕ) (d : A) → i < length xs → at xs i ≡ Some (get_or xs i d)
-at_getD [] i d h = absurd (omega arith)
-at_getD (x ∷ xs) zero d h = refl
-at_getD (x ∷ xs) (suc i) d h = at_getD xs i d (omega arith)
+at_get_or : {A : Type 0} (xs : List A) (i : ℕ) (d : A) → i < length xs → at xs i ≡ Some (get_or xs i d)
+at_get_or [] i d h = absurd (omega arith)
+at_get_or (x ∷ xs) zero d h = refl
+at_get_or (x ∷ xs) (suc i) d h = at_get_or xs i d (omega arith)
 
 at_set_same : {A : Type 0} (xs : List A) (i : ℕ) (r : A) → i < length xs → at (set xs i r) i ≡ Some r
 at_set_same [] i r h = absurd (omega arith)
@@ -55,7 +55,7 @@ module _ {S : Type 0} (c : CellMeaning) (w : WatchMeaning S) (kind : KeyMeaning 
   pub done_more : (h : History) (k k' : Check) (xs ys : List (Record (Configuration S))) (rs : List Reply) (r : Reply) (m : ℕ) (d : Asked) → m < length calls → m < length rs → length xs ≡ N
       → Responds c w kind (get_or calls m d).call (min (get_or calls m d).places (length xs)) k k' xs ys r → Done h k xs rs m → Done h k' ys (set rs m r) (m + 1)
   done_more h k k' xs ys rs r m d a b n o q =
-      let e = at_getD calls m d a in
+      let e = at_get_or calls m d a in
       let p : min (get_or calls m d).places (length xs) ≡ places N (get_or calls m d) = ap (min (get_or calls m d).places) n in
       let before = history N h (take m calls) in (
         subst (λ h. Keeps c w kind h k' ys) (sym (history_more N h calls m (get_or calls m d) e)) (subst (λ (p : ℕ). Keeps c w kind (granted before (get_or calls m d).call p) k' ys) p (o.keeps before q.0)),

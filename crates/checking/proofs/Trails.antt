@@ -89,15 +89,15 @@ set_past [] i y h = refl
 set_past (x ∷ xs) zero y h = absurd (omega arith)
 set_past (x ∷ xs) (suc i) y h = ap (λ l. x ∷ l) (set_past xs i y (omega arith))
 
-get_d_at : (xs : List ℕ) (i y : ℕ) → at xs i ≡ Some y → get_or xs i 0 ≡ y
-get_d_at [] i y e = absurd (let z : ◌≡◌ {A = ℕ} 0 1 = cc in omega arith)
-get_d_at (x ∷ xs) zero y e = let z : x ≡ y = cc in z
-get_d_at (x ∷ xs) (suc i) y e = get_d_at xs i y e
+get_or_at : (xs : List ℕ) (i y : ℕ) → at xs i ≡ Some y → get_or xs i 0 ≡ y
+get_or_at [] i y e = absurd (let z : ◌≡◌ {A = ℕ} 0 1 = cc in omega arith)
+get_or_at (x ∷ xs) zero y e = let z : x ≡ y = cc in z
+get_or_at (x ∷ xs) (suc i) y e = get_or_at xs i y e
 
-get_d_front : (xs : List ℕ) (y i : ℕ) → i < length xs → get_or (xs ++ (y ∷ [])) i 0 ≡ get_or xs i 0
-get_d_front [] y i h = absurd (omega arith)
-get_d_front (x ∷ xs) y zero h = refl
-get_d_front (x ∷ xs) y (suc i) h = get_d_front xs y i (omega arith)
+get_or_front : (xs : List ℕ) (y i : ℕ) → i < length xs → get_or (xs ++ (y ∷ [])) i 0 ≡ get_or xs i 0
+get_or_front [] y i h = absurd (omega arith)
+get_or_front (x ∷ xs) y zero h = refl
+get_or_front (x ∷ xs) y (suc i) h = get_or_front xs y i (omega arith)
 
 module _ {S : Type 0} (es : List (Entry (Configuration S))) where
   -- a step more, from the far end
@@ -127,7 +127,7 @@ module _ {S : Type 0} (es : List (Entry (Configuration S))) where
         λ l.
         get_or-set_same new p (last_at es now) 0 l
         ∙ ap (last_at es) (h.back ∙ ap (λ k. back_at es k place) (let e : end - left ≡ end - 1 - p = omega arith in e))
-        ∙ sym (get_d_at (trail es end place) p _ (trail_at es end place p (omega arith)))
+        ∙ sym (get_or_at (trail es end place) p _ (trail_at es end place p (omega arith)))
         ∙ simp (lt-ltb p end (omega arith)) in
         record {
           code = λ j l m. elim (order p j) [
@@ -148,7 +148,7 @@ module _ {S : Type 0} (es : List (Entry (Configuration S))) where
         elim (order j end) [
           | inl q ↦
               h j l ∙ simp (lt-ltb j end q, lt-ltb j (end + 1) (omega arith))
-              (sym (get_d_front (trail es end place) code j (omega (arith, trail_length es end place))))
+              (sym (get_or_front (trail es end place) code j (omega (arith, trail_length es end place))))
           | inr q ↦ elim (order end j) [
             | inl r ↦
                 let ne : j ≢ end = λ e. omega arith in
@@ -157,6 +157,6 @@ module _ {S : Type 0} (es : List (Entry (Configuration S))) where
                 let e : end ≡ j = omega arith in
                 h j l ∙ simp (le-ltb j end q, lt-ltb j (end + 1) (omega arith))
                 (subst (λ (j : ℕ). get_or (set old end code) j 0 ≡ get_or (trail es end place ++ (code ∷ [])) j 0) e
-                (get_or-set_same old end code 0 (omega (arith, long)) ∙ sym (get_d_at (trail es end place ++ (code ∷ [])) end code (run_end es end place code end refl))))
+                (get_or-set_same old end code 0 (omega (arith, long)) ∙ sym (get_or_at (trail es end place ++ (code ∷ [])) end code (run_end es end place code end refl))))
           ]
         ]

@@ -82,10 +82,10 @@ begins e (After s) m ms (inr (q, h, (u, j ∷ w, v, word, turn))) =
     (j, kept_from e (After s) m j (q, h, (suffix e 0 u q (j ∷ (w ++ v)) word).0) turn.0, (u ++ q ∷ [], w, v, subst (Word e 0) (sym (append_assoc u (q ∷ []) (j ∷ (w ++ v)))) word, turn.1))
 
 -- some kept assertion with what is to follow, where the state after m permits the rest
-abbrev Goes_on : Regex → Positions → Moment → List Moment → Type 0
-Goes_on e s m ms = (j : ℕ) × Has (kept e s m) j × ((w : List ℕ) × (v : List ℕ) × Leads e 0 j (w ++ v) × InTurn (holding e) w ms)
+abbrev GoesOn : Regex → Positions → Moment → List Moment → Type 0
+GoesOn e s m ms = (j : ℕ) × Has (kept e s m) j × ((w : List ℕ) × (v : List ℕ) × Leads e 0 j (w ++ v) × InTurn (holding e) w ms)
 
-goes_on : (e : Regex) (s : Positions) (m : Moment) (ms : List Moment) → (kept e s m ≡ 0 → ⊥) → allows e (After (kept e s m)) ms → Goes_on e s m ms
+goes_on : (e : Regex) (s : Positions) (m : Moment) (ms : List Moment) → (kept e s m ≡ 0 → ⊥) → allows e (After (kept e s m)) ms → GoesOn e s m ms
 goes_on e s m ms h (inl is) =
     let k = keep_some (λ p. holding e p m) (nexts e s) (size e) h in
     let c = kept_to e s m k.0 k.1 in
@@ -93,7 +93,7 @@ goes_on e s m ms h (inl is) =
     (k.0, k.1, ([], v.0, v.1, subst (InTurn (holding e) []) (sym is) tt))
 goes_on e s m ms h (inr (j, k, (u, w, v, word, turn))) = (j, k, (w, v, suffix e 0 u j (w ++ v) word, turn))
 
-continued : (e : Regex) (s : Positions) (m : Moment) (ms : List Moment) → Goes_on e s m ms → allows e s (m ∷ ms)
+continued : (e : Regex) (s : Positions) (m : Moment) (ms : List Moment) → GoesOn e s m ms → allows e s (m ∷ ms)
 continued e Start m ms (j, k, (w, v, leads, turn)) =
     let c = kept_to e Start m j k in
     (j ∷ w, v, from_path e 0 (j ∷ (w ++ v)) (c.0, leads), (c.1, turn))

@@ -1,7 +1,7 @@
 -- What the pass comes to, and which tree stands there, where a tree is laid down behind other nodes. Assumes nothing.
 use Rattle.std.proofs.Common.{◌≡◌, ℕ, suc, ◌+◌, ◌≤◌, true, List, [], ◌∷◌, ◌++◌, length, get_or, sym, refl, ap, ◌∙◌, append_assoc, append-nil, arith, length-append}
 use Rattle.std.proofs.lemmas.List.{get_or_append_left, get_or-append-add, get_or_push, length_push}
-use Rattle.std.specs.List.{AllByRecursion as All}
+use Rattle.std.specs.List.{AllByRecursion}
 use Rattle.std.proofs.ByRecursion.{All-append}
 use Rattle.regular.specs.Words.{Regex, empty, one, sequence, alternative, star, plus, size}
 use Rattle.regular.specs.Automaton.{nullable, firsts, lasts, follows}
@@ -159,7 +159,7 @@ laid_length (alternative e f) o n = two_lengths (laid e o n) (laid f (o + suc (b
 laid_length (star e) o n = length_push (laid e o n) (Star (o + below e)) ∙ omega (arith, laid_length e o n)
 laid_length (plus e) o n = length_push (laid e o n) (Plus (o + below e)) ∙ omega (arith, laid_length e o n)
 
-pub laid_placed : (e : Regex) (o n : ℕ) → n + size e ≤ 64 → All Placed (laid e o n)
+pub laid_placed : (e : Regex) (o n : ℕ) → n + size e ≤ 64 → AllByRecursion Placed (laid e o n)
 laid_placed empty o n h = (tt, tt)
 laid_placed (one a) o n h = (omega arith, tt)
 laid_placed (sequence e f) o n h = All-append Placed (laid e o n) (laid f (o + suc (below e)) (n + size e) ++ Sequence (o + below e) (o + suc (below e) + below f) ∷ []) (laid_placed e o n (omega arith)) (All-append Placed (laid f (o + suc (below e)) (n + size e)) (Sequence (o + below e) (o + suc (below e) + below f) ∷ []) (laid_placed f (o + suc (below e)) (n + size e) (omega arith)) (tt, tt))

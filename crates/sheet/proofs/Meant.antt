@@ -33,7 +33,7 @@ abbrev EndsSheet : List Word → List Word → Type 0
 EndsSheet ws rest = (ws ≡ rest) ⊎ Sign Rest ws rest
 
 -- the rest of an expression, behind alternatives a and a row s: more of the row, more alternatives, and the end
-pub record Goes_on (E : List Word → List Word → Type 0) (a : Option Regex) (s : Regex) (ws rest : List Word) : Type 0 where
+pub record GoesOn (E : List Word → List Word → Type 0) (a : Option Regex) (s : Regex) (ws rest : List Word) : Type 0 where
   pub in_row : Regex
   pub mid : List Word
   pub whole : Regex
@@ -73,8 +73,8 @@ M more_labels ws rest = Unit {0}
 M label ws rest = Unit {0}
 M label_set ws rest = Unit {0}
 M colon ws rest = Unit {0}
-M group ws rest = (a : Option Regex) (s : Regex) → Goes_on EndsGroup a s ws rest
-M expression ws rest = (a : Option Regex) (s : Regex) → Goes_on EndsSheet a s ws rest
+M group ws rest = (a : Option Regex) (s : Regex) → GoesOn EndsGroup a s ws rest
+M expression ws rest = (a : Option Regex) (s : Regex) → GoesOn EndsSheet a s ws rest
 M target ws rest = Unit {0}
 M edges ws rest = Unit {0}
 
@@ -133,7 +133,7 @@ unit_line k w r js e ws mid d = first (split (unit_lines k) w r js e)
     first (inr h) = second (split (line (at OpenParen) plain (unit ∷ repeats ∷ group ∷ k) ∷ third_lines k) w r js h.1)
 
 -- one more item in a row, and what follows it
-row_more : (E : List Word → List Word → Type 0) (z : Item) (ws mid : List Word) → ((x : List Word) → Mean M z x mid → (a : Option Regex) (s : Regex) → Goes_on E a s x mid) → ItemRead (repeats ∷ z ∷ []) ws mid → (a : Option Regex) (s : Regex) → Goes_on E a s ws mid
+row_more : (E : List Word → List Word → Type 0) (z : Item) (ws mid : List Word) → ((x : List Word) → Mean M z x mid → (a : Option Regex) (s : Regex) → GoesOn E a s x mid) → ItemRead (repeats ∷ z ∷ []) ws mid → (a : Option Regex) (s : Regex) → GoesOn E a s ws mid
 row_more E z ws mid goes x a s =
     let b = x.3.1 x.0 in
     let rest = x.3.2 in
@@ -148,7 +148,7 @@ no_item : (w : Word) (ws : List Word) (t : Token) → w.token ≡ t → eqb (kin
 no_item w ws t e a b c n = ((is_none w t e Empty a, (is_none w t e OpenParen b, (is_none w t e Question c, tt))), λ i k. is_none w t e (Number i) (n i) k)
 
 -- `|` and one more row, and what follows it
-rows_more : (E : List Word → List Word → Type 0) (z : Item) (w : Word) (ws mid : List Word) → w.token ≡ Bar → ((x : List Word) → Mean M z x mid → (a : Option Regex) (s : Regex) → Goes_on E a s x mid) → Means (Mean M) (unit ∷ repeats ∷ z ∷ []) ws mid → (a : Option Regex) (s : Regex) → Goes_on E a s (w ∷ ws) mid
+rows_more : (E : List Word → List Word → Type 0) (z : Item) (w : Word) (ws mid : List Word) → w.token ≡ Bar → ((x : List Word) → Mean M z x mid → (a : Option Regex) (s : Regex) → GoesOn E a s x mid) → Means (Mean M) (unit ∷ repeats ∷ z ∷ []) ws mid → (a : Option Regex) (s : Regex) → GoesOn E a s (w ∷ ws) mid
 rows_more E z w ws mid e goes x a s =
     let u = x.1 in
     let b = x.2.1 u.0 in
@@ -157,7 +157,7 @@ rows_more E z w ws mid e goes x a s =
     record { in_row = s; mid = w ∷ ws; whole = g.whole; last = g.last; more_row = row_ends (no_item w ws Bar e refl refl refl (λ n. refl)); more_rows = barred e (in_a_row u.1 b.1 g.more_row) g.more_rows; end = g.end }
 
 -- a sign that ends the rest of an expression
-ended : (E : List Word → List Word → Type 0) (w : Word) (ws mid : List Word) (t : Token) → w.token ≡ t → NoItem (w ∷ ws) → Free (Bar ∷ []) (w ∷ ws) → E (w ∷ ws) mid → (a : Option Regex) (s : Regex) → Goes_on E a s (w ∷ ws) mid
+ended : (E : List Word → List Word → Type 0) (w : Word) (ws mid : List Word) (t : Token) → w.token ≡ t → NoItem (w ∷ ws) → Free (Bar ∷ []) (w ∷ ws) → E (w ∷ ws) mid → (a : Option Regex) (s : Regex) → GoesOn E a s (w ∷ ws) mid
 ended E w ws mid t e n b x a s = record { in_row = s; mid = w ∷ ws; whole = behind a s; last = w ∷ ws; more_row = row_ends n; more_rows = no_bar b; end = x }
 
 group_line : (w : Word) (r : Role) (js : List Item) → find (rules_of group) w ≡ takes r js → (ws mid : List Word) → Means (Mean M) js ws mid → M group (w ∷ ws) mid

@@ -1,7 +1,7 @@
 -- A tree that is laid down grows again from its nodes. Assumes nothing.
 use Rattle.std.proofs.Common.{◌≡◌, ℕ, suc, ◌+◌, ◌-◌, ◌<◌, List, [], ◌∷◌, ◌++◌, map, length, get_or, sym, refl, ap, ◌∙◌, append_assoc, append-nil, add-zero, zero-add, arith}
 use Rattle.std.proofs.lemmas.List.{get_or_append_left, get_or_push, length_push}
-use Rattle.std.specs.List.{AllByRecursion as All}
+use Rattle.std.specs.List.{AllByRecursion}
 use Rattle.text.specs.declared.node.ArithNode.{ArithNode}
 use Rattle.text.specs.declared.node.TestNode.{TestNode}
 use Rattle.regular.specs.Words.{Regex, empty, one, sequence, alternative, star, plus, size, Assertion, assertions}
@@ -118,7 +118,7 @@ is_tested : (ns : List ArithNode) (ts : List TestNode) (l : Leaf) (a : Assertion
 is_tested ns ts (Given l i) a h = (a.test, h.1)
 is_tested ns ts Anything a h = tt
 
-pub stand_tested : (ns : List ArithNode) (ts : List TestNode) (ls : List Leaf) (fs : List Assertion) → Stand ns ts ls fs → All (Tested ns ts) ls
+pub stand_tested : (ns : List ArithNode) (ts : List TestNode) (ls : List Leaf) (fs : List Assertion) → Stand ns ts ls fs → AllByRecursion (Tested ns ts) ls
 stand_tested ns ts [] [] h = tt
 stand_tested ns ts [] (a ∷ more) h = tt
 stand_tested ns ts (l ∷ ls) [] h = absurd h

@@ -1,6 +1,6 @@
 -- The parts of a sheet in memory, and the tree that they stand for. Assumes nothing.
 use Rattle.std.specs.Prelude.{◌≡◌, ℕ, List, [], ◌∷◌, ◌++◌, map, slice_index_or}
-use Rattle.std.specs.List.{AllByRecursion as All}
+use Rattle.std.specs.List.{AllByRecursion}
 use Rattle.text.specs.declared.node.ArithNode.{ArithNode}
 use Rattle.text.specs.declared.node.ArithNode.TheVariants.{Number, Current, Initial, Plus, Minus}
 use Rattle.text.specs.declared.node.TestNode.{TestNode}
@@ -68,6 +68,6 @@ pub record Standing (xs : List Node) (ls : List Leaf) (ns : List ArithNode) (ts 
   -- the leaves are the tree's assertions, in text order
   pub listed : assertions (sheet_tree xs ls ns ts) ≡ map (assertion_of ns ts) ls
   -- each has its test
-  pub tested : All (Tested ns ts) ls
+  pub tested : AllByRecursion (Tested ns ts) ls
   pub begins : first ≡ firsts (sheet_tree xs ls ns ts) 0
   pub goes_on : follow ≡ follow_sets (sheet_tree xs ls ns ts)

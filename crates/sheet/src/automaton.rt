@@ -1,6 +1,6 @@
 // The position automaton of a tree: nullable, first, last and follow, in one pass over the nodes from front to back.
 ghost use Rattle.std.specs.Prelude.{◌≡◌, ◌+◌, ◌-◌, ◌<◌, ◌≤◌, [], length, get_or, replicate, vec_len, vec_capacity, slice_index_or};
-ghost use Rattle.std.specs.List.{AllByRecursion as All};
+ghost use Rattle.std.specs.List.{AllByRecursion};
 ghost use Rattle.regular.specs.Sets.{gain};
 ghost use Rattle.sheet.specs.Passes.{nothing, Placed, Roomy, of_sequence, of_alternative, summary, linked, all_summaries, links};
 
@@ -116,7 +116,7 @@ fn link(summaries: &[Summary], node: Node, follow: &mut [u64])
 // The pass itself: a summary for each node, and the sets of places that can follow each place.
 pub fn pass(nodes: &[Node], summaries: &mut Vec<Summary>, follow: &mut [u64])
     requires small { length follow.old ≤ 64 }
-    requires placed { All Placed nodes.now }
+    requires placed { AllByRecursion Placed nodes.now }
     requires room { vec_len summaries.old + length nodes.now ≤ vec_capacity summaries.old }
     ensures summarized { summaries.new.items ≡ all_summaries summaries.old.items nodes.now }
     ensures linked { follow.new ≡ links summaries.old.items follow.old nodes.now }

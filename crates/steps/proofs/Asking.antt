@@ -11,7 +11,7 @@ use Rattle.steps.specs.Laws.{starts_few, nexts_none, nexts_few}
 use Rattle.steps.specs.Meaning.{proper_parts}
 use Rattle.steps.specs.Tables.{nexts_of, starts_from, reading_of, proper}
 use Rattle.steps.proofs.Filing.{filed_read}
-use Rattle.steps.proofs.Lists.{at_getD}
+use Rattle.steps.proofs.Lists.{at_get_or}
 
 module _ (rs : List Row) (bs : List Arc) (fit : proper rs bs ≡ true) where
   few : (x : ℕ) → length (nexts_of bs x) ≤ 64
@@ -39,7 +39,7 @@ module _ (rs : List Row) (bs : List Arc) (fit : proper rs bs ≡ true) where
   slot_low x p h = let f = few x in let r = next_row x p h in omega arith
 
   pub next_is : (ts : List ℕ) (x p : ℕ) → Filed bs ts → p < length (nexts_of bs x) → Some (get_or ts (x * 64 + p) 0) ≡ at (nexts_of bs x) p
-  next_is ts x p filed h = ap Some (filed_read bs ts filed x p (next_row x p h) h) ∙ sym (at_getD (nexts_of bs x) p 0 h)
+  next_is ts x p filed h = ap Some (filed_read bs ts filed x p (next_row x p h) h) ∙ sym (at_get_or (nexts_of bs x) p 0 h)
 
   pub start_low : (p : ℕ) → p < length (starts_from 0 rs) → p < 256
   start_low p h = let f = starts_few 0 rs in let r = rows_few in omega arith
@@ -47,7 +47,7 @@ module _ (rs : List Row) (bs : List Arc) (fit : proper rs bs ≡ true) where
   pub start_is : (ss : List ℕ) (n p : ℕ) → Begun rs ss n → p < length (starts_from 0 rs) → Some (get_or ss p 0) ≡ at (starts_from 0 rs) p
   start_is ss n p begun h =
       let e = begun.0 in
-      ap Some (sym (get_or-take n ss p 0 (omega arith)) ∙ ap (λ l. get_or l p 0) begun.1) ∙ sym (at_getD (starts_from 0 rs) p 0 h)
+      ap Some (sym (get_or-take n ss p 0 (omega arith)) ∙ ap (λ l. get_or l p 0) begun.1) ∙ sym (at_get_or (starts_from 0 rs) p 0 h)
 
 reading_is : (rs : List Row) (x : ℕ) (d : Row) → x < length rs → ◌≡◌ {A = Reading} (record { label = (get_or rs x d).label; values = (get_or rs x d).values }) (reading_of rs x)
 reading_is [] x d h = absurd (omega arith)

@@ -6,7 +6,7 @@ use Rattle.steps.specs.declared.row.Arc.{Arc}
 use Rattle.steps.specs.Index.{Counted, Filed}
 use Rattle.steps.specs.Laws.{nexts_push, nexts_few, arc_parts}
 use Rattle.steps.specs.Tables.{nexts_of, proper_arc, proper_arcs}
-use Rattle.steps.proofs.Lists.{take_more_at, at_getD, arcs_push}
+use Rattle.steps.proofs.Lists.{take_more_at, at_get_or, arcs_push}
 
 -- the slots of each row, one by one
 abbrev pub Placed : List Arc → List ℕ → Type 0
@@ -97,7 +97,7 @@ module _ (n : ℕ) (all : List Arc) (i : ℕ) (cs : List ℕ) (d : Arc) (small :
   arc = get_or all i d
 
   more_is : take (i + 1) all ≡ take i all ++ (arc ∷ [])
-  more_is = take_more_at all i arc (at_getD all i d low)
+  more_is = take_more_at all i arc (at_get_or all i d low)
 
   pub tested : proper_arcs n [] (take (i + 1) all) ≡ (ltb arc.from n && (ltb arc.to n && ltb (get_or cs arc.from 0) 64))
   tested = ap (proper_arcs n []) more_is ∙ arcs_push n [] (take i all) arc good ∙ sym (test_is n (take i all) cs arc small counted)

@@ -21,10 +21,10 @@ module _ {A : Type 0} where
   at_past (x ∷ xs) zero h = absurd (omega arith)
   at_past (x ∷ xs) (suc i) h = at_past xs i (omega arith)
 
-  pub at_getD : (xs : List A) (i : ℕ) (d : A) → i < length xs → at xs i ≡ Some (get_or xs i d)
-  at_getD [] i d h = absurd (omega arith)
-  at_getD (x ∷ xs) zero d h = refl
-  at_getD (x ∷ xs) (suc i) d h = at_getD xs i d (omega arith)
+  pub at_get_or : (xs : List A) (i : ℕ) (d : A) → i < length xs → at xs i ≡ Some (get_or xs i d)
+  at_get_or [] i d h = absurd (omega arith)
+  at_get_or (x ∷ xs) zero d h = refl
+  at_get_or (x ∷ xs) (suc i) d h = at_get_or xs i d (omega arith)
 
   pub at_below : (xs : List A) (i : ℕ) → i < length xs → (x : A) × (at xs i ≡ Some x)
   at_below [] i h = absurd (omega arith)
@@ -100,4 +100,4 @@ limited_step vs i d h = at_drop_more limited vs i d h ∙ and_assoc (le_z (negsu
 
 -- a row more is tested
 pub rows_more : (rs : List Row) (i : ℕ) (d : Row) → i < length rs → proper_rows (take i rs) ≡ true → proper_rows (take (i + 1) rs) ≡ proper_row (get_or rs i d)
-rows_more rs i d h e = ap proper_rows (take_more_at rs i (get_or rs i d) (at_getD rs i d h)) ∙ rows_push (take i rs) (get_or rs i d) e
+rows_more rs i d h e = ap proper_rows (take_more_at rs i (get_or rs i d) (at_get_or rs i d h)) ∙ rows_push (take i rs) (get_or rs i d) e

@@ -13,10 +13,10 @@ use Rattle.text.specs.Expressions.{Arith, number, current, initial, plus, minus,
 use Rattle.text.specs.Nodes.{nodes, ArithAt}
 use Rattle.values.specs.Evaluation.{ValueSo}
 
-pub at_getD : {X : Type 0} (xs : List X) (i : ℕ) (d : X) → i < length xs → at xs i ≡ Some (get_or xs i d)
-at_getD [] i d h = absurd (omega arith)
-at_getD (x ∷ xs) zero d h = refl
-at_getD (x ∷ xs) (suc i) d h = at_getD xs i d (omega arith)
+pub at_get_or : {X : Type 0} (xs : List X) (i : ℕ) (d : X) → i < length xs → at xs i ≡ Some (get_or xs i d)
+at_get_or [] i d h = absurd (omega arith)
+at_get_or (x ∷ xs) zero d h = refl
+at_get_or (x ∷ xs) (suc i) d h = at_get_or xs i d (omega arith)
 
 pub at_none : {X : Type 0} (xs : List X) (i : ℕ) (x : X) → length xs ≤ i → at xs i ≡ Some x → ⊥
 at_none [] i x h e = let z : ◌≡◌ {A = ℕ} 0 1 = cc in omega arith

@@ -1,6 +1,6 @@
 // What expressions say of a moment.
 ghost use Rattle.std.specs.Prelude.{◌≡◌, ◌≤◌, length, pos, negsuc, ◌≤ℤ◌};
-ghost use Rattle.text.specs.Expressions.{Arith, Test, value as value_of_lem, holds as holds_of, register as register_value};
+ghost use Rattle.text.specs.Expressions.{Arith, Test, value as value_of, holds as holds_of, register as register_value};
 ghost use Rattle.text.specs.Words.{register_index};
 ghost use Rattle.text.specs.Nodes.{ArithAt, TestAt};
 ghost use Rattle.values.specs.Evaluation.{ValueSo, HoldsSo};
@@ -10,7 +10,7 @@ use text::{ArithNode, Expressions, Register, TestNode};
 
 // The value of the arithmetic expression that stands at a place, exactly.
 pub fn value(expressions: &Expressions, index: usize, moment: &Moment) -> i32
-    ensures { (a : Arith) → ArithAt expressions.now.ariths.items index a → result ≡ value_of_lem moment.now a }
+    ensures { (a : Arith) → ArithAt expressions.now.ariths.items index a → result ≡ value_of moment.now a }
 {
     arith_value(expressions.ariths(), index, moment)
 }

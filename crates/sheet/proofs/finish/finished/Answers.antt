@@ -1,5 +1,5 @@
 use Rattle.std.proofs.Common.{◌+◌, ◌-◌, ◌≤◌, List, [], length, get_or, replicate, vec_items, sym, ap, ◌∙◌, subst, arith}
-use Rattle.std.specs.List.{AllByRecursion as All}
+use Rattle.std.specs.List.{AllByRecursion}
 use Rattle.text.proofs.Lists.{empty_list}
 use Rattle.regular.specs.Words.{size}
 use Rattle.sheet.specs.declared.tree.Node.{Node}
@@ -17,7 +17,7 @@ automaton-first-requires c =
     let same = c.as_slice.ensures.value in
     record {
       small = omega (arith, d.few);
-      placed = subst (All Placed) (sym (same ∙ l.nodes)) (laid_placed e 0 0 few);
+      placed = subst (AllByRecursion Placed) (sym (same ∙ l.nodes)) (laid_placed e 0 0 few);
       none = empty_list (vec_items c.args.summaries) (omega (arith, c.args.summaries.ok, c.requires.room));
       no_summaries = c.requires.room.1;
       summary_room = omega (arith, d.fit, d.few, c.requires.room, c.as_slice.ensures.len);

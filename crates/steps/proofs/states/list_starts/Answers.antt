@@ -2,7 +2,7 @@
 use Rattle.std.proofs.Common.{◌+◌, ◌<◌, length, take, subst, arith}
 use Rattle.std.proofs.lemmas.List.{take_all}
 use Rattle.steps.specs.Index.{Begun}
-use Rattle.steps.proofs.Lists.{at_getD}
+use Rattle.steps.proofs.Lists.{at_get_or}
 use Rattle.steps.proofs.Starting.{begun_start, begun_other, begun_at}
 use Rattle.steps.proofs.states.list_starts.Goals as goal
 use Rattle.steps.proofs.states.list_starts.Goals.{then-row, else-row}
@@ -17,12 +17,12 @@ loop-number-preserved c =
       | then-row w ↦ (
         omega (arith, w.count-is),
         begun_at (take (i + 1) rs) _ _ c.if-row.starts c.if-row.count w.starts-is w.count-is
-            (begun_start rs i n c.loop-number.starts _ (at_getD rs i _ c.loop-number-test.true) c.loop-number.invariant.1 w.if-row.true low),
+            (begun_start rs i n c.loop-number.starts _ (at_get_or rs i _ c.loop-number-test.true) c.loop-number.invariant.1 w.if-row.true low),
       )
       | else-row w ↦ (
         omega (arith, w.count-is),
         begun_at (take (i + 1) rs) _ _ c.if-row.starts c.if-row.count w.starts-is w.count-is
-            (begun_other rs i n c.loop-number.starts _ (at_getD rs i _ c.loop-number-test.true) c.loop-number.invariant.1 w.if-row.false),
+            (begun_other rs i n c.loop-number.starts _ (at_get_or rs i _ c.loop-number-test.true) c.loop-number.invariant.1 w.if-row.false),
       )
     ]
 
