@@ -23,7 +23,7 @@ fn start_key<C: Cell, W: Watch>(cell: &C, watch: &W, code: u64) -> Option<Config
 
 // The first start whose run of one state is not permitted.
 fn unpermitted_start<C: Cell, W: Watch>(cell: &C, watch: &W) -> Option<u64>
-    ensures { result ≡ blamed_start (C.Cell.cell cell.now) (W.Watch.watch watch.now) (configuration_key W.State.kind).alike 0 (C.Cell.cell cell.now).starts }
+    ensures { result ≡ blamed_start (C.Cell.cell cell.now) (W.Watch.watch watch.now) (configuration_key W.State.Key.kind).alike 0 (C.Cell.cell cell.now).starts }
 {
     for place in 0..cell.start_count() {
         if let Some(code) = cell.start_at(place) {

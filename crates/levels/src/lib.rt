@@ -12,6 +12,6 @@ use model::{Cell, Watch};
 // check says after u units is true of all runs, and what it has stored are the configurations of the runs that it says
 // this of.
 pub fn law_holds<C: Cell, W: Watch>(cell: &C, watch: &W)
-    ensures law { (n u : ℕ) → Law (C.Cell.cell cell.now) (W.Watch.watch watch.now) n u (says (after (C.Cell.cell cell.now) (W.Watch.watch watch.now) (configuration_key W.State.kind).alike n u)) }
-    ensures tally { (n u : ℕ) → Tally (C.Cell.cell cell.now) (W.Watch.watch watch.now) n (keys (after (C.Cell.cell cell.now) (W.Watch.watch watch.now) (configuration_key W.State.kind).alike n u).stored) (says (after (C.Cell.cell cell.now) (W.Watch.watch watch.now) (configuration_key W.State.kind).alike n u)) }
+    ensures law { (n u : ℕ) → Law (C.Cell.cell cell.now) (W.Watch.watch watch.now) n u (says (after (C.Cell.cell cell.now) (W.Watch.watch watch.now) (configuration_key W.State.Key.kind).alike n u)) }
+    ensures tally { (n u : ℕ) → Tally (C.Cell.cell cell.now) (W.Watch.watch watch.now) n (keys (after (C.Cell.cell cell.now) (W.Watch.watch watch.now) (configuration_key W.State.Key.kind).alike n u).stored) (says (after (C.Cell.cell cell.now) (W.Watch.watch watch.now) (configuration_key W.State.Key.kind).alike n u)) }
 {}
