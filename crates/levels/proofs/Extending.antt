@@ -12,7 +12,7 @@ use Rattle.levels.specs.Law.{keys}
 use Rattle.levels.specs.Units.{Phase, looking, extending, passing, filled, Kept, onward, put_nexts, extended, extend}
 use Rattle.levels.proofs.Lists.{Entries, push, length_push, at_below, below_at, some_injective}
 use Rattle.levels.proofs.Reaching.{Line, Shortly, Reached, Fine, Closed, Covers, line_length, reached_within, fine_within, closed_within, covers_within, covers_more}
-use Rattle.levels.proofs.Settling.{more_from_over, passes}
+use Rattle.levels.proofs.Settling.{more_from_over, passes, passes_counted}
 use Rattle.levels.proofs.Standings.{InLooking, InExtending, Good, Stands}
 use Rattle.levels.proofs.Storing.{Grown, Stores, nexts_puts, stores_puts}
 use Rattle.levels.proofs.Watching.{RunOf, Steps, moved, run_push, has_push, onward_moved, moved_onward}
@@ -105,7 +105,11 @@ module _ {S : Type 0} (c : CellMeaning) (w : WatchMeaning S) (key : KeyMeaning (
 
         done : length fs ≡ end → Good c w n (suc u) fs passing
         done h =
-            passes c w (suc j) fs (omega arith) g.clear covers_new (λ p a. fine_all p (omega arith)) (λ p a. closed_all p (omega arith)) n (suc u) grown.sound
+            let fine : (p : ℕ) → p < length fs → Fine c w fs p = λ p a. fine_all p (omega arith) in
+            let closed : (p : ℕ) → p < length fs → Closed c w fs p = λ p a. closed_all p (omega arith) in (
+              passes c w (suc j) fs (omega arith) g.clear covers_new fine closed n (suc u) grown.sound.fits,
+              passes_counted c w (suc j) fs (omega arith) g.clear covers_new fine closed n grown.sound,
+            )
 
       grown_stands : Good c w n (suc u) fs (cond (ltb (i + 1) end) (extending j end (i + 1)) (cond (eqb (length fs) end) passing (looking (j + 1) end end)))
       grown_stands =

@@ -6,11 +6,11 @@ use Rattle.model.specs.Entries.{Entry}
 use Rattle.model.specs.Runs.{moment}
 use Rattle.model.specs.Watches.{WatchMeaning}
 use Rattle.model.specs.declared.configuration.Configuration.{Configuration}
-use Rattle.levels.specs.Law.{Law, keys, Counts}
+use Rattle.levels.specs.Law.{Bad, Law, keys, Counts}
 use Rattle.levels.specs.Units.{looking, extending, failed, blame, blamed, looked, look, trail}
 use Rattle.levels.proofs.Lists.{Entries, push, length_push, some_injective, some_none}
 use Rattle.levels.proofs.Reaching.{Fine, line_length, line_trail, clear_more}
-use Rattle.levels.proofs.Settling.{fails}
+use Rattle.levels.proofs.Settling.{fails, fails_counted}
 use Rattle.levels.proofs.Standings.{InLooking, InExtending, Good, Stands}
 use Rattle.levels.proofs.Watching.{run_push, unpermitted_push}
 
@@ -46,10 +46,12 @@ module _ {S : Type 0} (c : CellMeaning) (w : WatchMeaning S) (same : Configurati
         let k = r.0.key in
         let h' = subst (λ (d : Entry (Configuration S)). In y (c.nexts d.key.last)) same_entry h in
         let none' = subst (λ (d : Entry (Configuration S)). w.step d.key.state (moment c d.key.first y) ≡ None) same_entry none in
-        subst (λ (zs : List ℕ). Law c w n (suc u) (failed (push zs y)) × Counts c w (keys es)) (sym (line_trail es j i r.2 r.3))
-        (fails c w n (suc u) j (length es) es (push r.2 y) g.sound g.clear g.covers
-        (run_push c w r.2 k y r.4 h', unpermitted_push c w r.2 k y r.4.1 none')
-        (length_push r.2 y ∙ ap suc (line_length es j i r.2 r.3)))
+        let bad : Bad c w (push r.2 y) = (run_push c w r.2 k y r.4 h', unpermitted_push c w r.2 k y r.4.1 none') in
+        let long : length (push r.2 y) ≡ suc j = length_push r.2 y ∙ ap suc (line_length es j i r.2 r.3) in
+        subst (λ (zs : List ℕ). Law c w n (suc u) (failed (push zs y)) × Counts c w (keys es)) (sym (line_trail es j i r.2 r.3)) (
+          fails c w n (suc u) j (length es) es (push r.2 y) g.sound.fits g.clear g.covers bad long,
+          fails_counted c w n j (length es) es (push r.2 y) g.sound g.clear g.covers bad long,
+        )
 
     -- one more place without such a code
     module _ (fine : Fine c w es i) where

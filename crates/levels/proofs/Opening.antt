@@ -8,12 +8,12 @@ use Rattle.model.specs.Keys.{KeyMeaning}
 use Rattle.model.specs.Runs.{Run, moment, Has}
 use Rattle.model.specs.Watches.{WatchMeaning}
 use Rattle.model.specs.declared.configuration.Configuration.{Configuration}
-use Rattle.levels.specs.Law.{Clear, Law, Counts, keys}
+use Rattle.levels.specs.Law.{Bad, Clear, Law, Counts, keys}
 use Rattle.levels.specs.Units.{Phase, passing, filled, failed, Kept, onward, blamed_start, put_starts, begun, opened}
 use Rattle.levels.proofs.Lists.{Entries, at_below, below_at, some_none}
 use Rattle.levels.proofs.Looking.{blame_some, blame_none}
-use Rattle.levels.proofs.Reaching.{Shortly, Reached, Covers}
-use Rattle.levels.proofs.Settling.{more_from_over, fails, passes}
+use Rattle.levels.proofs.Reaching.{Shortly, Reached, Fine, Closed, Covers}
+use Rattle.levels.proofs.Settling.{more_from_over, fails, fails_counted, passes, passes_counted}
 use Rattle.levels.proofs.Standings.{InLooking, Good, Stands}
 use Rattle.levels.proofs.Storing.{Sound, Grown, Stores, place_of, starts_puts, stores_puts}
 use Rattle.levels.proofs.Watching.{RunOf, permitted_from_has, has_one, one_has, onward_moved, moved_onward}
@@ -38,8 +38,12 @@ module _ {S : Type 0} (c : CellMeaning) (w : WatchMeaning S) (key : KeyMeaning (
 
   found : (x : ℕ) → In x c.starts → w.step w.first (moment c x x) ≡ None → Law c w n 0 (failed (x ∷ [])) × Counts c w []
   found x h e =
-      fails c w n 0 0 0 [] (x ∷ []) (record { fits = omega arith; apart = tt; each = λ k a. absurd a }) (λ xs r l. absurd (never xs r l)) (λ xs k r l. absurd (never xs r.0 l))
-      ((h, tt), λ p. w.stops w.first (moment c x x) e [] p) refl
+      let clear : Clear c w 0 = λ xs r l. absurd (never xs r l) in
+      let covers : Covers c w 0 0 [] = λ xs k r l. absurd (never xs r.0 l) in
+      let bad : Bad c w (x ∷ []) = ((h, tt), λ p. w.stops w.first (moment c x x) e [] p) in (
+        fails c w n 0 0 0 [] (x ∷ []) (omega arith) clear covers bad refl,
+        fails_counted c w n 0 0 [] (x ∷ []) (record { fits = omega arith; apart = tt; each = λ k a. absurd a }) clear covers bad refl,
+      )
 
   -- an entry whose configuration is that of a start
   abbrev Start : Entry (Configuration S) → Type 0
@@ -90,7 +94,11 @@ module _ {S : Type 0} (c : CellMeaning) (w : WatchMeaning S) (key : KeyMeaning (
 
       none : length fs ≡ 0 → Good c w n 0 fs passing
       none h =
-          passes c w 1 fs (omega arith) clear_one covers_one (λ p a. absurd (let z : ⊥ = omega arith in z)) (λ p a. absurd (let z : ⊥ = omega arith in z)) n 0 grown.sound
+          let fine : (p : ℕ) → p < length fs → Fine c w fs p = λ p a. absurd (let z : ⊥ = omega arith in z) in
+          let closed : (p : ℕ) → p < length fs → Closed c w fs p = λ p a. absurd (let z : ⊥ = omega arith in z) in (
+            passes c w 1 fs (omega arith) clear_one covers_one fine closed n 0 grown.sound.fits,
+            passes_counted c w 1 fs (omega arith) clear_one covers_one fine closed n grown.sound,
+          )
 
     stored_stands : (r : Kept S) → Stores n (Shortly c w 1) Start [] r (λ k. (x : ℕ) × In x c.starts × (onward c w key.alike n x w.first x ≡ Some k)) → Stands c w n 0 (begun c w key.alike n None r)
     stored_stands r (inl h) =

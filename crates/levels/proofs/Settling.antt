@@ -43,12 +43,17 @@ module _ {S : Type 0} (c : CellMeaning) (w : WatchMeaning S) where
     all = f;
   }
 
-  pub fails : (n u j b : ℕ) (es : Entries S) (xs : List ℕ) → Sound n (Shortly c w j) es → Clear c w j → Covers c w j b es → Bad c w xs → length xs ≡ suc j → Law c w n u (failed xs) × Counts c w (keys es)
-  fails n u j b es xs sound clear covers bad len =
-      let f : (zs : List ℕ) (k : Configuration S) → Early c w zs → Has c w zs k → In k (keys es) = λ zs k e h. let l = e.1 xs bad in covered_in_keys c w j b es covers zs k (e.0, h) (omega arith) in (
-        (no_more n es sound.fits f, (bad, λ ys a. let l = bad_later j clear ys a in omega arith)),
-        counted n j es sound clear f,
-      )
+  -- a fail: there was room, and the run shown is a shortest that is not permitted
+  pub fails : (n u j b : ℕ) (es : Entries S) (xs : List ℕ) → length es ≤ n → Clear c w j → Covers c w j b es → Bad c w xs → length xs ≡ suc j → Law c w n u (failed xs)
+  fails n u j b es xs fits clear covers bad len = (
+    no_more n es fits (λ zs k e h. let l = e.1 xs bad in covered_in_keys c w j b es covers zs k (e.0, h) (omega arith)),
+    (bad, λ ys a. let l = bad_later j clear ys a in omega arith),
+  )
+
+  -- and what is stored then
+  pub fails_counted : (n j b : ℕ) (es : Entries S) (xs : List ℕ) → Sound n (Shortly c w j) es → Clear c w j → Covers c w j b es → Bad c w xs → length xs ≡ suc j → Counts c w (keys es)
+  fails_counted n j b es xs sound clear covers bad len =
+      counted n j es sound clear (λ zs k e h. let l = e.1 xs bad in covered_in_keys c w j b es covers zs k (e.0, h) (omega arith))
 
   module _ (j : ℕ) (es : Entries S) (first : 1 ≤ j) (clear : Clear c w j) (covers : Covers c w j (length es) es)
       (fine : (p : ℕ) → p < length es → Fine c w es p) (closed : (p : ℕ) → p < length es → Closed c w es p) where
@@ -61,9 +66,14 @@ module _ {S : Type 0} (c : CellMeaning) (w : WatchMeaning S) where
           covers_more c w (suc m) (length es) es (omega arith) a.1 (omega arith) closed,
         )
 
-    pub passes : (n u : ℕ) → Sound n (Shortly c w j) es → Law c w n u passed × Counts c w (keys es)
-    passes n u sound =
-        let f : (xs : List ℕ) (k : Configuration S) → Early c w xs → Has c w xs k → In k (keys es) = λ xs k e h. covered_in_keys c w (suc (length xs)) (length es) es (all (length xs)).1 xs k (e.0, h) (omega arith) in (
-          (no_more n es sound.fits f, λ xs r. (all (length xs)).0 xs r (omega arith)),
-          counted n j es sound clear f,
-        )
+    -- a pass: there was room, and every run is permitted
+    pub passes : (n u : ℕ) → length es ≤ n → Law c w n u passed
+    passes n u fits = (
+      no_more n es fits (λ xs k e h. covered_in_keys c w (suc (length xs)) (length es) es (all (length xs)).1 xs k (e.0, h) (omega arith)),
+      λ xs r. (all (length xs)).0 xs r (omega arith),
+    )
+
+    -- and what is stored then
+    pub passes_counted : (n : ℕ) → Sound n (Shortly c w j) es → Counts c w (keys es)
+    passes_counted n sound =
+        counted n j es sound clear (λ xs k e h. covered_in_keys c w (suc (length xs)) (length es) es (all (length xs)).1 xs k (e.0, h) (omega arith))

@@ -1,11 +1,11 @@
 // A step table as a cell: each question is answered from one place of the table or of its index.
-ghost use Rattle.steps.specs.Meaning.{«table_cell»};
+ghost use Rattle.steps.specs.Meaning.{table_cell};
 
 use crate::table::{SLOTS, StepTable};
 use model::{Cell, Reading};
 
 impl<'a> Cell for StepTable<'a> {
-    ghost cell = { λ t. «table_cell» t.rows.now t.arcs.now t.fit };
+    ghost cell = { λ t. table_cell t.rows.now t.arcs.now t.fit };
 
     fn start_count(&self) -> usize {
         self.index.start_count

@@ -2,7 +2,7 @@
 ghost use Rattle.std.specs.Prelude.{◌≡◌, ℕ, ◌+◌, ◌*◌, ◌<◌, ◌≤◌, true, false, ◌&&◌, [], length, take, MatchResult, nat_lt, slice_index, slice_set};
 ghost use Rattle.model.specs.Refusals.{reply};
 ghost use Rattle.steps.specs.Index.{Counted, Filed};
-ghost use Rattle.steps.specs.Tables.{«proper_arcs»};
+ghost use Rattle.steps.specs.Tables.{proper_arcs};
 
 use crate::fill::refused;
 use crate::row::Arc;
@@ -52,7 +52,7 @@ pub(crate) fn arrange(
     requires counts { length counts.old ≡ 256 }
     requires targets { length targets.old ≡ 16384 }
     requires none { Counted [] counts.old }
-    ensures { MatchResult result (λ _. («proper_arcs» rows [] arcs.now ≡ true) × Counted arcs.now counts.new × Filed arcs.now targets.new) (λ e. (i : ℕ) × (reply e ≡ (5, 13, rows + i)) × (i < length arcs.now) × («proper_arcs» rows [] (take i arcs.now) ≡ true) × («proper_arcs» rows [] (take (i + 1) arcs.now) ≡ false)) }
+    ensures { MatchResult result (λ _. (proper_arcs rows [] arcs.now ≡ true) × Counted arcs.now counts.new × Filed arcs.now targets.new) (λ e. (i : ℕ) × (reply e ≡ (5, 13, rows + i)) × (i < length arcs.now) × (proper_arcs rows [] (take i arcs.now) ≡ true) × (proper_arcs rows [] (take (i + 1) arcs.now) ≡ false)) }
 {
     for (number, arc) in arcs.iter().enumerate() {
         if !may_follow(arc, rows, counts) {

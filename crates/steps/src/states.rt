@@ -2,7 +2,7 @@
 ghost use Rattle.std.specs.Prelude.{◌≡◌, ℕ, ◌+◌, ◌<◌, ◌≤◌, true, false, ◌&&◌, length, take, pos, negsuc, MatchResult, int_le};
 ghost use Rattle.model.specs.Refusals.{reply};
 ghost use Rattle.steps.specs.Index.{Begun};
-ghost use Rattle.steps.specs.Tables.{limited, «proper_row», «proper_rows»};
+ghost use Rattle.steps.specs.Tables.{limited, proper_row, proper_rows};
 
 use crate::fill::refused;
 use crate::row::Row;
@@ -27,7 +27,7 @@ fn all_limited(values: &[i16]) -> bool
 }
 
 fn is_proper(row: &Row) -> bool
-    ensures { result ≡ «proper_row» row.now }
+    ensures { result ≡ proper_row row.now }
 {
     if row.label >= 64 {
         return false;
@@ -37,7 +37,7 @@ fn is_proper(row: &Row) -> bool
 
 // Refuses the first row that is not proper.
 pub(crate) fn all_proper(rows: &[Row]) -> Result<(), Refusal>
-    ensures { MatchResult result (λ _. «proper_rows» rows.now ≡ true) (λ e. (i : ℕ) × (reply e ≡ (5, 13, i)) × (i < length rows.now) × («proper_rows» (take i rows.now) ≡ true) × («proper_rows» (take (i + 1) rows.now) ≡ false)) }
+    ensures { MatchResult result (λ _. proper_rows rows.now ≡ true) (λ e. (i : ℕ) × (reply e ≡ (5, 13, i)) × (i < length rows.now) × (proper_rows (take i rows.now) ≡ true) × (proper_rows (take (i + 1) rows.now) ≡ false)) }
 {
     for (number, row) in rows.iter().enumerate() {
         if !is_proper(row) {

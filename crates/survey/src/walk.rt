@@ -1,7 +1,7 @@
 // The walk through a cell, breadth first: the table is the queue, and the set of the codes met.
 ghost use Rattle.std.specs.Prelude.{◌<◌, ◌≤◌, [], length};
 ghost use Rattle.model.specs.Cells.{at};
-ghost use Rattle.model.specs.Keys.{«code_key»};
+ghost use Rattle.model.specs.Keys.{code_key};
 ghost use Rattle.store.specs.Chains.{Indexed};
 ghost use Rattle.store.specs.Entries.{entries};
 ghost use Rattle.survey.specs.Held.{KeptSo, WalkedSo};
@@ -14,7 +14,7 @@ use store::{Added, Record, add};
 fn keep(table: &mut [Record<u64>], stored: usize, code: u64, from: usize) -> Option<usize>
     requires small { length table.old ≤ 1000000 }
     requires from { from ≤ 1000000 }
-    requires indexed { Indexed «code_key» table.old stored }
+    requires indexed { Indexed code_key table.old stored }
     ensures { KeptSo table.old table.new (meet (entries table.old stored) code from) result }
 {
     match add(table, stored, code, from as u32) {
@@ -50,7 +50,7 @@ fn keep_nexts<C: Cell>(
 ) -> Option<usize>
     requires small { length table.old ≤ 1000000 }
     requires from { from < stored }
-    requires indexed { Indexed «code_key» table.old stored }
+    requires indexed { Indexed code_key table.old stored }
     ensures { KeptSo table.old table.new (visit (C.Cell.cell cell.now) from (entries table.old stored) (at (entries table.old stored) from)) result }
 {
     let code = table[from].key;

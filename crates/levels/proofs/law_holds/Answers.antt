@@ -3,7 +3,6 @@ use Rattle.model.specs.Keys.{configuration_key}
 use Rattle.levels.proofs.Theorem.{law, tally}
 use Rattle.levels.proofs.law_holds.Goals as goal
 
--- src/lib.rt:11:1
 pub returns : goal.returns
 returns g c =
     let m = g.C.Cell.cell c.args.cell.now in
