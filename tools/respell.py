@@ -4,21 +4,20 @@
 usage: python3 tools/respell.py            at the top of the repository, once, after the kit's port.py
 
 Words are in snake case (in-keys becomes in_keys), types and statements in camel case (No-item becomes NoItem). Only
-names that the repository declares in specs/ and proofs/ are respelled: names that Rattle makes (the goals and steps of
-a proof) and names that a file imports from the library keep theirs. Names that would fall together are printed, and
-then nothing is written.
+names that the repository declares in specs/ and proofs/, its ghost names, and the names that a file gives to what it
+imports (`use .. as ..`) are respelled. A name that is also that of a goal keeps its spelling everywhere, and a name that
+a file imports from the library keeps it in that file. Names that would fall together are printed, and then nothing is
+written, but with the word --anyway.
 """
 import re
 import sys
 from pathlib import Path
 
 NAME = r"[A-Za-zα-ωΑ-Ω][\w']*"
-DASHED = re.compile(r"(?<![\w'.◌·-])(" + NAME + r"(?:-[\w']+)+)(?![\w'-])")
 TOKEN = re.compile(r"(?<![\w'-])(" + NAME + r"(?:-[\w']+)*)(?![\w'-])")
 DECLARED = re.compile(r"(?m)^[ \t]*((?:(?:abbrev|unfoldable|pub|data|record|\|) +)*)(" + NAME + r"(?:-[\w']+)*)(?= *(?:: | *\{| *\())")
 LET = re.compile(r"\blet (" + NAME + r"(?:-[\w']+)+) *(?==|:)")
 USE = re.compile(r"\b(?:pub +)?use +([^;\n{]*?)(?:\.\{([^}]*)\})?(?: as [\w'-]+)?(?=;|\n|$)")
-FIELD = re.compile(r"[{;] *(" + NAME + r"(?:-[\w']+)+) *= ")
 OWN = re.compile(r"Rattle\.(\w+)\b")
 # names whose plain respelling is taken by a word of the library
 OTHERWISE = {"bit-or": "bit_of_or"}
