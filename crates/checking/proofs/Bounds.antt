@@ -99,9 +99,7 @@ module _ {S : Type 0} (c : CellMeaning) (w : WatchMeaning S) (kind : KeyMeaning 
         fits = g.sound.fits;
         first = λ e a. let r = g.sound.each e.key (in_keys es i e a) in began r.0 e.key r.1;
       }
-  ready_from u es passing g l v = tt
-  ready_from u es (failing b i y) g l v = tt
-  ready_from u es filled g l v = tt
+  ready_from u es ph g l v = tt
 
   pub ready : (u : ℕ) → Ready c n (after c w kind n u).stored (after c w kind n u).phase
   ready u = ready_from u _ (after c w kind n u).phase (stands c w (configuration_key kind) n u) (law c w (configuration_key kind) n u) (leveled u)

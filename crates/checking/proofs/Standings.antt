@@ -1,5 +1,6 @@
 -- How a check that stands as after u units comes to stand as after more of them. Assumes nothing.
-use Rattle.std.proofs.Common.{◌≡◌, ℕ, zero, suc, ◌+◌, ◌<◌, ◌≤◌, Bool, List, [], length, Some, None, sym, refl, ap, ◌∙◌, subst, add-zero, add-one, arith}
+use Rattle.std.proofs.Common.{◌≡◌, ℕ, zero, suc, ◌+◌, ◌<◌, ◌≤◌, Bool, false, List, [], length, Some, None, Option, is_some, sym, refl, ap, ◌∙◌, subst, add-zero, add-one, arith}
+use Rattle.std.proofs.lemmas.Bool.{true≢false}
 use Rattle.model.specs.Cells.{CellMeaning, at}
 use Rattle.model.specs.Entries.{Entry}
 use Rattle.model.specs.Keys.{KeyMeaning, configuration_key}
@@ -12,7 +13,7 @@ use Rattle.store.specs.Entries.{entries}
 use Rattle.store.specs.declared.record.Record.{Record}
 use Rattle.store.proofs.Laws.{entries_length}
 use Rattle.checking.specs.declared.phase.Phase.{Phase}
-use Rattle.checking.specs.declared.phase.Phase.TheVariants.{Looking, Extending, Passing, Failing, Filled}
+use Rattle.checking.specs.declared.phase.Phase.TheVariants.{Looking, Extending}
 use Rattle.checking.specs.declared.state.Check.{Check}
 use Rattle.checking.specs.Keeping.{Sound}
 use Rattle.checking.specs.Standing.{phase_of, place_of, view, after, Stands, Adds, Goes, Countable, advanced, rest}
@@ -22,17 +23,13 @@ use Rattle.checking.proofs.Bounds.{Facts, Ready, ready}
 countable : {S : Type 0} (c : CellMeaning) (n : ℕ) (es : List (Entry (Configuration S))) (ph : Phase) → n ≤ 1000000 → Ready c n es (phase_of ph) → Countable ph
 countable c n es (Looking j low i) h r = (omega (arith, r.level), omega (arith, r.next, r.fits))
 countable c n es (Extending j end i) h r = (omega (arith, r.level), omega (arith, r.next, r.fits))
-countable c n es Passing h r = tt
-countable c n es (Failing b i y) h r = tt
-countable c n es Filled h r = tt
+countable c n es ph h r = tt
 
 -- what comes next is the place of a stored configuration that began in a state
 facts_at : {S : Type 0} (c : CellMeaning) (n : ℕ) (es : List (Entry (Configuration S))) (ph : units.Phase) (i : ℕ) → place_of ph ≡ Some i → Ready c n es ph → (j : ℕ) × Facts c n es j i
 facts_at c n es (looking j low i) k e r = (j, subst (λ (i : ℕ). Facts c n es j i) (let z : i ≡ k = cc in z) r)
 facts_at c n es (extending j end i) k e r = (j, subst (λ (i : ℕ). Facts c n es j i) (let z : i ≡ k = cc in z) r)
-facts_at c n es passing k e r = absurd (let z : ◌≡◌ {A = ℕ} 0 1 = cc in omega arith)
-facts_at c n es (failing b i y) k e r = absurd (let z : ◌≡◌ {A = ℕ} 0 1 = cc in omega arith)
-facts_at c n es filled k e r = absurd (let z : ◌≡◌ {A = ℕ} 0 1 = cc in omega arith)
+facts_at c n es ph k e r = absurd (cc)
 
 module _ {S : Type 0} (c : CellMeaning) (w : WatchMeaning S) (kind : KeyMeaning S) (n : ℕ) where
   abbrev alike : Configuration S → Configuration S → Bool
@@ -51,17 +48,13 @@ module _ {S : Type 0} (c : CellMeaning) (w : WatchMeaning S) (kind : KeyMeaning 
       → turn c w alike n es ph ≡ rest c w kind n e.key.first e.key.state (c.nexts e.key.last) es ph
   turn_rest es (looking j low k) i e p a = ap (look c w alike n es j low k) (ap (at es) (let z : k ≡ i = cc in z) ∙ a)
   turn_rest es (extending j end k) i e p a = ap (extend c w alike n es j end k) (ap (at es) (let z : k ≡ i = cc in z) ∙ a)
-  turn_rest es passing i e p a = refl
-  turn_rest es (failing b k y) i e p a = refl
-  turn_rest es filled i e p a = refl
+  turn_rest es ph i e p a = refl
 
   -- a unit leaves a settled check as it is
   turn_settled : (es : List (Entry (Configuration S))) (ph : units.Phase) → place_of ph ≡ None → turn c w alike n es ph ≡ record { stored = es; phase = ph }
-  turn_settled es (looking j low i) p = absurd (let z : ◌≡◌ {A = ℕ} 0 1 = cc in omega arith)
-  turn_settled es (extending j end i) p = absurd (let z : ◌≡◌ {A = ℕ} 0 1 = cc in omega arith)
-  turn_settled es passing p = refl
-  turn_settled es (failing b i y) p = refl
-  turn_settled es filled p = refl
+  turn_settled es (looking j low i) p = absurd (cc)
+  turn_settled es (extending j end i) p = absurd (cc)
+  turn_settled es ph p = refl
 
   after_more : (u : ℕ) → after c w kind n (u + 1) ≡ unit c w alike n (after c w kind n u)
   after_more u = ap (after c w kind n) (add-one u) ∙ after_one c w alike n u
@@ -117,6 +110,11 @@ module _ {S : Type 0} (c : CellMeaning) (w : WatchMeaning S) (kind : KeyMeaning 
               ∙ sym unit_of
               ∙ ap (λ m. after c w kind m (u + 1)) (sym l);
         }
+
+-- where no place is found there is none
+pub no_place : (o : Option ℕ) → is_some o ≡ false → o ≡ None
+no_place None e = refl
+no_place (Some i) e = absurd (true≢false e)
 
 -- a settled check stands as after any number of units more
 pub settled_more : {S : Type 0} (c : CellMeaning) (w : WatchMeaning S) (kind : KeyMeaning S) (d u : ℕ) (k : Check) (xs : List (Record (Configuration S))) → place_of (phase_of k.phase) ≡ None → Stands c w kind u k xs → Stands c w kind (u + d) k xs

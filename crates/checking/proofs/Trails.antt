@@ -1,5 +1,8 @@
 -- Going back along the places that records were reached from. Assumes nothing.
-use Rattle.std.proofs.Common.{◌≡◌, ℕ, zero, suc, ◌+◌, ◌-◌, ◌<◌, ◌≤◌, cond, ltb, ◌≢◌, ◌⊎◌, List, [], ◌∷◌, ◌++◌, length, get_or, set, Some, sym, refl, ap, ◌∙◌, subst, inl, inr, arith, length-append, length-set, get_or-set_other, get_or-set_same, le-ltb, lt-ltb}
+use Rattle.std.proofs.Common.{◌≡◌, ℕ, zero, suc, ◌+◌, ◌-◌, ◌<◌, ◌≤◌, cond, ltb, ◌≢◌, List, [], ◌∷◌, ◌++◌, length, get_or, set, Some, None, Option, MatchOption, Bor, sym, refl, ap, ◌∙◌, subst, inl, inr, arith, length-append, length-set, get_or-set_other, get_or-set_same, le-ltb, lt-ltb}
+use Rattle.std.specs.Slice.{IsItemAt}
+use Rattle.std.proofs.lemmas.Bool.{cases_lt}
+use Rattle.std.proofs.lemmas.List.{get_or_append_left}
 use Rattle.model.specs.Cells.{at}
 use Rattle.model.specs.Entries.{Entry}
 use Rattle.model.specs.declared.configuration.Configuration.{Configuration}
@@ -20,9 +23,6 @@ at_end [] y p e = ap (at (y ∷ [])) e
 at_end (x ∷ xs) y zero e = absurd (omega arith)
 at_end (x ∷ xs) y (suc p) e = at_end xs y p (omega arith)
 
-order : (a b : ℕ) → (a < b) ⊎ (b ≤ a)
-order a b = grind arith
-
 module _ {S : Type 0} where
   from_past : (es : List (Entry (Configuration S))) (i : ℕ) → length es ≤ i → from_at es i ≡ 0
   from_past [] i h = refl
@@ -35,21 +35,20 @@ module _ {S : Type 0} where
   last_past (e ∷ es) (suc i) h = last_past es i (omega arith)
 
   module _ (xs : List (Record (Configuration S))) (i : ℕ) where
-    pub no_from : length xs ≤ i → 0 ≡ from_at (whole xs) i
-    no_from h = sym (from_past (whole xs) i (omega (arith, entries_length xs (length xs) (omega arith))))
+    there : (r : Record (Configuration S)) → i < length xs → r ≡ get_or xs i r → at (whole xs) i ≡ Some (entry r)
+    there r h e = entry_read xs (length xs) i r h h e
 
-    pub no_last : length xs ≤ i → 0 ≡ last_at (whole xs) i
-    no_last h = sym (last_past (whole xs) i (omega (arith, entries_length xs (length xs) (omega arith))))
+    past : length xs ≤ i → length (whole xs) ≤ i
+    past h = omega (arith, entries_length xs (length xs) (omega arith))
 
-    module _ (r : Record (Configuration S)) (h : i < length xs) (e : r ≡ get_or xs i r) where
-      there : at (whole xs) i ≡ Some (entry (get_or xs i r))
-      there = entry_read xs (length xs) i (get_or xs i r) h h (ap (get_or xs i) e)
+    -- what a look at a place reads there
+    pub read_from : (o : Option (Bor (Record (Configuration S)))) (v : ℕ) → IsItemAt xs i o → MatchOption o (v ≡ 0) (λ r. v ≡ r.now.from) → v ≡ from_at (whole xs) i
+    read_from None v l h = h ∙ sym (from_past (whole xs) i (past l.3))
+    read_from (Some r) v l h = h ∙ sym (from_at_is (whole xs) i (entry r.now) (there r.now l.3.0 l.1))
 
-      pub the_from : (get_or xs i r).from ≡ from_at (whole xs) i
-      the_from = sym (from_at_is (whole xs) i (entry (get_or xs i r)) there)
-
-      pub the_last : (get_or xs i r).key.last ≡ last_at (whole xs) i
-      the_last = sym (last_at_is (whole xs) i (entry (get_or xs i r)) there)
+    pub read_last : (o : Option (Bor (Record (Configuration S)))) (v : ℕ) → IsItemAt xs i o → MatchOption o (v ≡ 0) (λ r. v ≡ r.now.key.last) → v ≡ last_at (whole xs) i
+    read_last None v l h = h ∙ sym (last_past (whole xs) i (past l.3))
+    read_last (Some r) v l h = h ∙ sym (last_at_is (whole xs) i (entry r.now) (there r.now l.3.0 l.1))
 
   -- one step of going back
   pub back_more : (es : List (Entry (Configuration S))) (m s i : ℕ) → s < m → back_at es (m - s) i ≡ back_at es (m - (s + 1)) (from_at es i)
@@ -66,7 +65,7 @@ module _ {S : Type 0} where
   trail_at es zero i p h = absurd (omega arith)
   trail_at es (suc m) i p h =
       let long = trail_length es m (from_at es i) in
-      elim (order p m) [
+      elim (cases_lt p m) [
         | inl l ↦
             at_front (trail es m (from_at es i)) (last_at es i) p (omega (arith, long))
             ∙ trail_at es m (from_at es i) p l
@@ -83,21 +82,10 @@ module _ {S : Type 0} where
   pub run_end : (es : List (Entry (Configuration S))) (m i y p : ℕ) → p ≡ m → at (trail es m i ++ (y ∷ [])) p ≡ Some y
   run_end es m i y p e = at_end (trail es m i) y p (e ∙ sym (trail_length es m i))
 
--- a store past the end changes nothing
-pub set_past : (xs : List ℕ) (i y : ℕ) → length xs ≤ i → set xs i y ≡ xs
-set_past [] i y h = refl
-set_past (x ∷ xs) zero y h = absurd (omega arith)
-set_past (x ∷ xs) (suc i) y h = ap (λ l. x ∷ l) (set_past xs i y (omega arith))
-
 get_or_at : (xs : List ℕ) (i y : ℕ) → at xs i ≡ Some y → get_or xs i 0 ≡ y
-get_or_at [] i y e = absurd (let z : ◌≡◌ {A = ℕ} 0 1 = cc in omega arith)
+get_or_at [] i y e = absurd (cc)
 get_or_at (x ∷ xs) zero y e = let z : x ≡ y = cc in z
 get_or_at (x ∷ xs) (suc i) y e = get_or_at xs i y e
-
-get_or_front : (xs : List ℕ) (y i : ℕ) → i < length xs → get_or (xs ++ (y ∷ [])) i 0 ≡ get_or xs i 0
-get_or_front [] y i h = absurd (omega arith)
-get_or_front (x ∷ xs) y zero h = refl
-get_or_front (x ∷ xs) y (suc i) h = get_or_front xs y i (omega arith)
 
 module _ {S : Type 0} (es : List (Entry (Configuration S))) where
   -- a step more, from the far end
@@ -112,14 +100,6 @@ module _ {S : Type 0} (es : List (Entry (Configuration S))) where
       pub still : (j : ℕ) → j < left → get_or new j 0 ≡ get_or old j 0
       pub back : now ≡ back_at es (end - left) place
 
-    pub handing_none : Handing old end place
-    handing_none =
-        record {
-          code = λ j h l. simp (le-ltb j end l);
-          still = λ j h. refl;
-          back = ap (λ k. back_at es k place) (let e : 0 ≡ end - end = omega arith in e);
-        }
-
     pub handing_more : (new : List ℕ) (left now : ℕ) → 0 < left → left ≤ end → Handing new left now → Handing (set new (left - 1) (last_at es now)) (left - 1) (from_at es now)
     handing_more new left now some most h =
         let p = left - 1 in
@@ -130,7 +110,7 @@ module _ {S : Type 0} (es : List (Entry (Configuration S))) where
         ∙ sym (get_or_at (trail es end place) p _ (trail_at es end place p (omega arith)))
         ∙ simp (lt-ltb p end (omega arith)) in
         record {
-          code = λ j l m. elim (order p j) [
+          code = λ j l m. elim (cases_lt p j) [
             | inl q ↦ let ne : j ≢ p = λ e. omega arith in get_or-set_other new p j (last_at es now) 0 ne ∙ h.code j (omega (arith, length-set new p (last_at es now))) (omega arith)
             | inr q ↦ let e : p ≡ j = omega arith in subst (λ (j : ℕ). get_or (set new p (last_at es now)) j 0 ≡ cond (ltb j end) (get_or (trail es end place) j 0) (get_or old j 0)) e (here (omega (arith, length-set new p (last_at es now))))
           ];
@@ -138,18 +118,15 @@ module _ {S : Type 0} (es : List (Entry (Configuration S))) where
           back = ap (from_at es) h.back ∙ sym (back_out (end - left) place) ∙ ap (λ k. back_at es k place) (let e : suc (end - left) ≡ end - p = omega arith in e);
         }
 
-    pub handing_all : (new : List ℕ) (now : ℕ) → Handing new 0 now → (j : ℕ) → j < length new → get_or new j 0 ≡ cond (ltb j end) (get_or (trail es end place) j 0) (get_or old j 0)
-    handing_all new now h j l = h.code j l (omega arith)
-
     -- behind the code that settled the check
     pub run_handed : (code : ℕ) (new : List ℕ) → length new ≡ length old → ((j : ℕ) → j < length new → get_or new j 0 ≡ cond (ltb j end) (get_or (trail es end place) j 0) (get_or (set old end code) j 0))
         → (j : ℕ) → j < length new → get_or new j 0 ≡ cond (ltb j (end + 1)) (get_or (trail es end place ++ (code ∷ [])) j 0) (get_or old j 0)
     run_handed code new long h j l =
-        elim (order j end) [
+        elim (cases_lt j end) [
           | inl q ↦
               h j l ∙ simp (lt-ltb j end q, lt-ltb j (end + 1) (omega arith))
-              (sym (get_or_front (trail es end place) code j (omega (arith, trail_length es end place))))
-          | inr q ↦ elim (order end j) [
+              (sym (get_or_append_left (trail es end place) (code ∷ []) 0 j (omega (arith, trail_length es end place))))
+          | inr q ↦ elim (cases_lt end j) [
             | inl r ↦
                 let ne : j ≢ end = λ e. omega arith in
                 h j l ∙ simp (le-ltb j end q, le-ltb j (end + 1) (omega arith)) (get_or-set_other old end j code 0 ne)

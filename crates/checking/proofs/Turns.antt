@@ -1,5 +1,5 @@
 -- One next code after another: what meeting a code does to the rest of a unit. Assumes nothing.
-use Rattle.std.proofs.Common.{◌≡◌, ℕ, zero, suc, ◌+◌, ◌-◌, ◌≤◌, true, false, cond, ◌||◌, List, [], ◌∷◌, length, drop, Some, None, Option, sym, refl, ap, ◌∙◌, subst, add-one, arith, drop_of_length-le, le-ltb, lt-ltb}
+use Rattle.std.proofs.Common.{◌≡◌, ℕ, zero, suc, ◌+◌, ◌-◌, ◌≤◌, true, cond, ◌||◌, List, [], ◌∷◌, length, drop, Some, None, Option, Ok, Err, Result, is_err, sym, refl, ap, ◌∙◌, subst, add-one, arith, le-ltb, lt-ltb}
 use Rattle.std.specs.Option.{option_map}
 use Rattle.std.proofs.lemmas.List.{drop-drop}
 use Rattle.model.specs.Cells.{CellMeaning, at}
@@ -8,15 +8,18 @@ use Rattle.model.specs.Keys.{KeyMeaning, configuration_key}
 use Rattle.model.specs.Runs.{moment}
 use Rattle.model.specs.Watches.{WatchMeaning}
 use Rattle.model.specs.declared.configuration.Configuration.{Configuration}
+use Rattle.model.specs.declared.moment.Reading.{Reading}
 use Rattle.levels.specs.Units as units
 use Rattle.levels.specs.Units.{Standing, Kept, looking, extending, passing, failing, filled, blame, blamed, put, put_nexts, looked, extended, onward}
 use Rattle.store.specs.Entries as stores
 use Rattle.store.specs.Entries.{entries}
+use Rattle.store.specs.Keeping as keeping
+use Rattle.store.specs.Keeping.{KeptSo, old, new, no_place, now_stored}
+use Rattle.store.specs.declared.adding.NoPlace.{NoPlace}
 use Rattle.store.specs.declared.record.Record.{Record}
-use Rattle.store.proofs.Laws.{entries_length}
+use Rattle.store.proofs.Laws.{entries_length, places_all}
 use Rattle.checking.specs.declared.state.Check.{Check}
-use Rattle.checking.specs.Keeping as keeping
-use Rattle.checking.specs.Keeping.{Sound, KeptSo, old, new, no_place, now_stored}
+use Rattle.checking.specs.Keeping.{Sound}
 use Rattle.checking.specs.Standing.{Met, Same, kept_phase, rest, resting, Adds, view, phase_of, Goes}
 
 -- more places beyond are the same too
@@ -43,16 +46,9 @@ module _ {S : Type 0} (kind : KeyMeaning S) where
   -- meeting a code only adds
   pub met_adds : (y : ℕ) (t : Option (Configuration S)) (k k' : Check) (xs ys : List (Record (Configuration S))) (ph ph' : units.Phase) → k'.places ≡ k.places → Met kind y t ph ph' k.stored k'.stored xs ys → Adds k k' xs ys
   met_adds y None k k' xs ys (looking j low i) ph' p h = adds_same k k' xs ys p h.1 h.2
-  met_adds y (Some c) k k' xs ys (looking j low i) ph' p h = adds_same k k' xs ys p h.1 h.2
-  met_adds y None k k' xs ys (extending j end i) ph' p h = adds_same k k' xs ys p h.1 h.2
   met_adds y (Some c) k k' xs ys (extending j end i) ph' p h =
       record { places = p; more = omega (arith, h.1.more, h.2); beyond = subst (λ (n : ℕ). drop n ys ≡ drop n xs) (sym h.2) h.1.beyond }
-  met_adds y None k k' xs ys passing ph' p h = adds_same k k' xs ys p h.1 h.2
-  met_adds y (Some c) k k' xs ys passing ph' p h = adds_same k k' xs ys p h.1 h.2
-  met_adds y None k k' xs ys (failing b i z) ph' p h = adds_same k k' xs ys p h.1 h.2
-  met_adds y (Some c) k k' xs ys (failing b i z) ph' p h = adds_same k k' xs ys p h.1 h.2
-  met_adds y None k k' xs ys filled ph' p h = adds_same k k' xs ys p h.1 h.2
-  met_adds y (Some c) k k' xs ys filled ph' p h = adds_same k k' xs ys p h.1 h.2
+  met_adds y t k k' xs ys ph ph' p h = adds_same k k' xs ys p h.1 h.2
 
 module _ {S : Type 0} (c : CellMeaning) (w : WatchMeaning S) (kind : KeyMeaning S) (n : ℕ) where
   abbrev key : KeyMeaning (Configuration S)
@@ -64,13 +60,17 @@ module _ {S : Type 0} (c : CellMeaning) (w : WatchMeaning S) (kind : KeyMeaning 
   known_same k (e ∷ es) = ap (λ b. key.alike e.key k || b) (known_same k es)
 
   -- what was kept is what the definition puts
-  pub kept_put : (xs ys : List (Record (Configuration S))) (m : ℕ) (k : Configuration S) (f : ℕ) (r : Option ℕ) → n ≡ length xs → m ≤ length xs → keeping.Kept key xs ys m k f r
-      → put c w key.alike n (entries xs m) k f ≡ record { stored = entries ys (now_stored m r); full = elim r [ None ↦ true | Some m' ↦ false ] }
-  kept_put xs ys m k f r e h (old q s) = simp (known_same k (entries xs m), q, s)
-  kept_put xs ys m k f r e h (new q l s) =
-      simp (known_same k (entries xs m), q, s, lt-ltb (length (entries xs m)) n (omega (arith, entries_length xs m h)))
-  kept_put xs ys m k f r e h (no_place q l s) =
-      simp (known_same k (entries xs m), q, s, le-ltb (length (entries xs m)) n (omega (arith, entries_length xs m h)))
+  pub kept_put : (xs ys : List (Record (Configuration S))) (m : ℕ) (k : Configuration S) (f : ℕ) (r : Result ℕ NoPlace) → n ≡ length xs → Sound key xs m → keeping.Kept key xs ys m k f r
+      → put c w key.alike n (entries xs m) k f ≡ record { stored = entries ys (now_stored m r); full = is_err r }
+  kept_put xs ys m k f r e g (old q s) = simp (known_same k (entries xs m), q, s)
+  kept_put xs ys m k f r e g (new q l s) =
+      simp (known_same k (entries xs m), q, s, lt-ltb (length (entries xs m)) n (omega (arith, entries_length xs m g.indexed.within, places_all xs g.small)))
+  kept_put xs ys m k f r e g (no_place q l s) =
+      simp (known_same k (entries xs m), q, s, le-ltb (length (entries xs m)) n (omega (arith, entries_length xs m g.indexed.within, places_all xs g.small)))
+
+  -- and what was sound is sound with it
+  pub kept_sound : {xs ys : List (Record (Configuration S))} {m : ℕ} {k : Configuration S} {f : ℕ} {r : Result ℕ NoPlace} → KeptSo key xs ys m k f r → Sound key xs m → Sound key ys (now_stored m r)
+  kept_sound h g = record { indexed = h.indexed g.indexed; small = omega (arith, h.long, g.small) }
 
   -- what is sound before a code is met and what the rest of the unit comes to, afterwards
   pub record On (x : ℕ) (s : S) (ys : List ℕ) (y : ℕ) (ph ph' : units.Phase) (m m' : ℕ) (xs zs : List (Record (Configuration S))) : Type 0 where
@@ -103,23 +103,23 @@ module _ {S : Type 0} (c : CellMeaning) (w : WatchMeaning S) (kind : KeyMeaning 
     step_over : onward c w key.alike n x s y ≡ None → (es : List (Entry (Configuration S))) (j end i : ℕ) → rest c w kind n x s (y ∷ ys) es (extending j end i) ≡ rest c w kind n x s ys es (extending j end i)
     step_over e es j end i = ap (λ o. extended c w key.alike n j end i (units.and_then c w key.alike n (units.put_new c w key.alike n es o i) (put_nexts c w key.alike n i x s ys))) e
 
-    step_kept : (k : Configuration S) → onward c w key.alike n x s y ≡ Some k → (xs zs : List (Record (Configuration S))) (m j end i : ℕ) (r : Option ℕ) → n ≡ length xs → m ≤ length xs → keeping.Kept key xs zs m k i r
+    step_kept : (k : Configuration S) → onward c w key.alike n x s y ≡ Some k → (xs zs : List (Record (Configuration S))) (m j end i : ℕ) (r : Result ℕ NoPlace) → n ≡ length xs → Sound key xs m → keeping.Kept key xs zs m k i r
         → rest c w kind n x s (y ∷ ys) (entries xs m) (extending j end i) ≡ rest c w kind n x s ys (entries zs (now_stored m r)) (kept_phase r (extending j end i))
-    step_kept k e xs zs m j end i None q h d = step_put k e (entries xs m) _ j end i (kept_put xs zs m k i None q h d)
-    step_kept k e xs zs m j end i (Some m') q h d = step_put k e (entries xs m) _ j end i (kept_put xs zs m k i (Some m') q h d)
+    step_kept k e xs zs m j end i (Ok m') q g d = step_put k e (entries xs m) _ j end i (kept_put xs zs m k i (Ok m') q g d)
+    step_kept k e xs zs m j end i (Err p) q g d = step_put k e (entries xs m) _ j end i (kept_put xs zs m k i (Err p) q g d)
 
     pub no_step : onward c w key.alike n x s y ≡ None → w.step s (moment c x y) ≡ None
     no_step e = from (w.step s (moment c x y)) e
       where
         from : (o : Option S) → ◌≡◌ {A = Option (Configuration S)} (option_map (λ t. record { first = x; last = y; state = t }) o) None → o ≡ None
         from None e = refl
-        from (Some t) e = absurd (let z : ◌≡◌ {A = ℕ} 0 1 = cc in omega arith)
+        from (Some t) e = absurd (cc)
 
     pub a_step : (k : Configuration S) → onward c w key.alike n x s y ≡ Some k → (t : S) × (w.step s (moment c x y) ≡ Some t)
     a_step k e = from (w.step s (moment c x y)) e
       where
         from : (o : Option S) → option_map (λ t. record { first = x; last = y; state = t }) o ≡ Some k → (t : S) × (o ≡ Some t)
-        from None e = absurd (let z : ◌≡◌ {A = ℕ} 0 1 = cc in omega arith)
+        from None e = absurd (cc)
         from (Some t) e = (t, refl)
 
     -- meeting code y is the step from the codes with y in front to the codes behind it
@@ -128,36 +128,31 @@ module _ {S : Type 0} (c : CellMeaning) (w : WatchMeaning S) (kind : KeyMeaning 
     met_on (Some k) (looking j low i) ph' m m' xs zs q e g h = let t = a_step k (sym e) in on_same (looking j low i) ph' (looking j low i) m m' xs zs g h (step_some t.0 t.1 (entries xs m) j low i)
     met_on None (extending j end i) ph' m m' xs zs q e g h = on_same (extending j end i) ph' (extending j end i) m m' xs zs g h (step_over (sym e) (entries xs m) j end i)
     met_on (Some k) (extending j end i) ph' m m' xs zs q e g h =
-        let within : m ≤ length xs = g.indexed.within in
         record {
-          sound = subst (λ (m : ℕ). Sound key zs m) (sym h.2) (h.1.sound g);
-          same = step_kept k (sym e) xs zs m j end i h.0 q within (h.1.kept g) ∙ (λ i. rest c w kind n x s ys (entries zs (sym h.2 i)) (sym h.3 i));
+          sound = subst (λ (m : ℕ). Sound key zs m) (sym h.2) (kept_sound h.1 g);
+          same = step_kept k (sym e) xs zs m j end i h.0 q g (h.1.kept g.indexed) ∙ (λ i. rest c w kind n x s ys (entries zs (sym h.2 i)) (sym h.3 i));
         }
-    met_on None passing ph' m m' xs zs q e g h = on_same passing ph' passing m m' xs zs g h refl
-    met_on (Some k) passing ph' m m' xs zs q e g h = on_same passing ph' passing m m' xs zs g h refl
-    met_on None (failing b i z) ph' m m' xs zs q e g h = on_same (failing b i z) ph' (failing b i z) m m' xs zs g h refl
-    met_on (Some k) (failing b i z) ph' m m' xs zs q e g h = on_same (failing b i z) ph' (failing b i z) m m' xs zs g h refl
-    met_on None filled ph' m m' xs zs q e g h = on_same filled ph' filled m m' xs zs g h refl
-    met_on (Some k) filled ph' m m' xs zs q e g h = on_same filled ph' filled m m' xs zs g h refl
+    met_on t ph ph' m m' xs zs q e g h = on_same ph ph' ph m m' xs zs g h refl
 
 -- the codes from a place on are the code there and those behind it
 pub drop_at : {A : Type 0} (xs : List A) (i : ℕ) (y : A) → at xs i ≡ Some y → drop i xs ≡ y ∷ drop (i + 1) xs
 drop_at xs i y e = go xs i e ∙ ap (λ k. y ∷ drop k xs) (sym (add-one i))
   where
     go : (xs : List _) (i : ℕ) → at xs i ≡ Some y → drop i xs ≡ y ∷ drop (suc i) xs
-    go [] i e = absurd (let z : ◌≡◌ {A = ℕ} 0 1 = cc in omega arith)
+    go [] i e = absurd (cc)
     go (x ∷ xs) zero e = ap (λ z. z ∷ xs) (let z : x ≡ y = cc in z)
     go (x ∷ xs) (suc i) e = go xs i e
 
 pub at_none : {A : Type 0} (xs : List A) (i : ℕ) → at xs i ≡ None → length xs ≤ i
 at_none [] i e = omega arith
-at_none (x ∷ xs) zero e = absurd (let z : ◌≡◌ {A = ℕ} 0 1 = cc in omega arith)
+at_none (x ∷ xs) zero e = absurd (cc)
 at_none (x ∷ xs) (suc i) e = omega (arith, at_none xs i e)
 
-module _ {S : Type 0} (c : CellMeaning) (w : WatchMeaning S) (kind : KeyMeaning S) (key : Configuration S) (all : List ℕ) where
-  pub goes_none : (k : Check) (xs : List (Record (Configuration S))) → Goes c w kind key all all k k xs xs
-  goes_none k xs = record { on = λ g st. (g, refl) }
+-- what is read of a state
+pub read_state : (c : CellMeaning) (x : ℕ) (r : Reading) → c.state x ≡ true → Some r ≡ cond (c.state x) (Some (c.reads x)) None → r ≡ c.reads x
+read_state c x r st e = let z : Some r ≡ Some (c.reads x) = e ∙ ap (λ b. cond b (Some (c.reads x)) None) st in cc
 
+module _ {S : Type 0} (c : CellMeaning) (w : WatchMeaning S) (kind : KeyMeaning S) (key : Configuration S) (all : List ℕ) where
   -- one more code
   pub goes_more : {k k₁ k₂ : Check} {xs ys zs : List (Record (Configuration S))} (i y : ℕ) (t : Option (Configuration S))
       → length ys ≡ length xs → at all i ≡ Some y → (c.state key.first ≡ true → t ≡ onward c w (configuration_key kind).alike 0 key.first key.state y)
@@ -169,7 +164,3 @@ module _ {S : Type 0} (c : CellMeaning) (w : WatchMeaning S) (kind : KeyMeaning 
         let on = met_on c w kind (length xs) key.first key.state y (drop (i + 1) all) t (phase_of k₁.phase) (phase_of k₂.phase) k₁.stored k₂.stored ys zs (sym q) (e st) before.0 h in
         (on.sound, before.1 ∙ ap (λ l. resting c w kind (length xs) key.first key.state l (view k₁ ys)) (drop_at all i y a) ∙ on.same);
   }
-
-  -- no code more
-  pub goes_all : {k k' : Check} {xs ys : List (Record (Configuration S))} (i : ℕ) → length all ≤ i → Goes c w kind key all (drop i all) k k' xs ys → Goes c w kind key all [] k k' xs ys
-  goes_all {k = k} {k' = k'} {xs = xs} {ys = ys} i h r = subst (λ (l : List ℕ). Goes c w kind key all l k k' xs ys) (drop_of_length-le all h) r

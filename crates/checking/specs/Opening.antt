@@ -1,5 +1,5 @@
 -- What opening a check comes to: all starts are looked at, then stored. Assumes nothing.
-use Rattle.std.specs.Prelude.{◌≡◌, ℕ, ◌<◌, ◌≤◌, Bool, true, false, List, [], length, drop, Some, None, Ok, Err, Option, Result, ◌≢◌}
+use Rattle.std.specs.Prelude.{◌≡◌, ℕ, ◌<◌, ◌≤◌, true, List, [], length, drop, Ok, Err, Result, is_err, ◌≢◌}
 use Rattle.model.specs.Cells.{CellMeaning}
 use Rattle.model.specs.Keys.{KeyMeaning, configuration_key}
 use Rattle.model.specs.Refusals.{reply}
@@ -9,24 +9,21 @@ use Rattle.model.specs.declared.configuration.Configuration.{Configuration}
 use Rattle.model.specs.declared.refusal.Refusal.{Refusal}
 use Rattle.levels.specs.Units.{onward, put_new, put_starts}
 use Rattle.store.specs.Entries.{entries}
+use Rattle.store.specs.declared.adding.NoPlace.{NoPlace}
 use Rattle.store.specs.declared.record.Record.{Record}
 use Rattle.checking.specs.declared.state.Check.{Check}
-use Rattle.checking.specs.Keeping.{Sound, now_stored}
+use Rattle.checking.specs.Keeping.{Sound}
 use Rattle.checking.specs.Standing.{Stands, after, answer}
 
--- no number is answered where no place was left
-abbrev pub none : Option ℕ → Bool
-none None = true
-none (Some m) = false
-
 module _ {S : Type 0} (c : CellMeaning) (w : WatchMeaning S) (kind : KeyMeaning S) where
-  -- storing the configuration of the start x behind m others
-  pub record StartSo (x : ℕ) (xs ys : List (Record (Configuration S))) (m : ℕ) (r : Option ℕ) : Type 0 where
-    pub more : m ≤ now_stored m r
-    pub beyond : drop (now_stored m r) ys ≡ drop (now_stored m r) xs
-    pub sound : Sound (configuration_key kind) xs m → Sound (configuration_key kind) ys (now_stored m r)
+  -- storing the configuration of the start x behind m others: m' are stored then, still m where no place was left
+  pub record StartSo (x : ℕ) (xs ys : List (Record (Configuration S))) (m m' : ℕ) (r : Result (Unit {0}) NoPlace) : Type 0 where
+    pub more : m ≤ m'
+    pub none : is_err r ≡ true → m' ≡ m
+    pub beyond : drop m' ys ≡ drop m' xs
+    pub sound : Sound (configuration_key kind) xs m → Sound (configuration_key kind) ys m'
     pub puts : Sound (configuration_key kind) xs m → c.state x ≡ true
-        → put_new c w (configuration_key kind).alike (length xs) (entries xs m) (onward c w (configuration_key kind).alike (length xs) x w.first x) m ≡ record { stored = entries ys (now_stored m r); full = none r }
+        → put_new c w (configuration_key kind).alike (length xs) (entries xs m) (onward c w (configuration_key kind).alike (length xs) x w.first x) m ≡ record { stored = entries ys m'; full = is_err r }
 
   -- storing the configurations of the starts, with these still to come and m records stored so far
   pub record Storing (still : List ℕ) (xs ys : List (Record (Configuration S))) (m : ℕ) : Type 0 where
@@ -34,11 +31,11 @@ module _ {S : Type 0} (c : CellMeaning) (w : WatchMeaning S) (kind : KeyMeaning 
     pub sound : length xs ≤ 1000000 → Sound (configuration_key kind) ys m
     pub puts : length xs ≤ 1000000 → put_starts c w (configuration_key kind).alike (length xs) c.starts [] ≡ put_starts c w (configuration_key kind).alike (length xs) still (entries ys m)
 
-  -- storing the configurations of all starts: m records are stored then, and one found no place or none did
-  pub record StartsSo (xs ys : List (Record (Configuration S))) (m : ℕ) (full : Bool) : Type 0 where
+  -- storing the configurations of all starts: m records are stored then, unless one found no place
+  pub record StartsSo (xs ys : List (Record (Configuration S))) (m : ℕ) (r : Result (Unit {0}) NoPlace) : Type 0 where
     pub beyond : drop m ys ≡ drop m xs
     pub sound : length xs ≤ 1000000 → Sound (configuration_key kind) ys m
-    pub puts : length xs ≤ 1000000 → put_starts c w (configuration_key kind).alike (length xs) c.starts [] ≡ record { stored = entries ys m; full = full }
+    pub puts : length xs ≤ 1000000 → put_starts c w (configuration_key kind).alike (length xs) c.starts [] ≡ record { stored = entries ys m; full = is_err r }
 
   -- a check in the table xs, which is ys now, stands at its beginning
   pub record Begun (k : Check) (xs ys : List (Record (Configuration S))) : Type 0 where

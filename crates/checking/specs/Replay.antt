@@ -14,7 +14,7 @@ use Rattle.store.specs.declared.record.Record.{Record}
 use Rattle.checking.specs.declared.calls.Call.{Call}
 use Rattle.checking.specs.declared.calls.Call.TheVariants.{Open, Work, Restart, Verdict, Shown}
 use Rattle.checking.specs.declared.calls.Reply.{Reply}
-use Rattle.checking.specs.declared.calls.Reply.TheVariants.{Told, Code, Refused}
+use Rattle.checking.specs.declared.calls.Reply.TheVariants.{Told, Code}
 use Rattle.checking.specs.declared.calls.Asked.{Asked}
 use Rattle.checking.specs.declared.state.Check.{Check}
 use Rattle.checking.specs.Standing.{Stands, after}
@@ -56,15 +56,15 @@ Tells (failed run) a = (a.verdict ≡ Fail) × (a.count ≡ length run)
 Tells full a = (a.verdict ≡ Full) × (a.count ≡ 0)
 
 -- a refusal with these numbers
-abbrev pub Refuses : Reply → ℕ → ℕ → ℕ → Type 0
-Refuses r l c p = (e : Refusal) × (r ≡ Refused e) × (reply e ≡ (l, c, p))
+abbrev pub Refuses : Result Reply Refusal → ℕ → ℕ → ℕ → Type 0
+Refuses r l c p = (e : Refusal) × (r ≡ Err e) × (reply e ≡ (l, c, p))
 
 -- the code at place q of a run: BEYOND at or past its length
-abbrev pub CodeOf : List ℕ → ℕ → Reply → Type 0
-CodeOf run q r = ((y : ℕ) → at run q ≡ Some y → r ≡ Code y) × (length run ≤ q → Refuses r 6 15 q)
+abbrev pub CodeOf : List ℕ → ℕ → Result Reply Refusal → Type 0
+CodeOf run q r = ((y : ℕ) → at run q ≡ Some y → r ≡ Ok (Code y)) × (length run ≤ q → Refuses r 6 15 q)
 
 -- NO RUN without a fail
-abbrev pub ShownOf : Outcome → ℕ → Reply → Type 0
+abbrev pub ShownOf : Outcome → ℕ → Result Reply Refusal → Type 0
 ShownOf (working k) q r = Refuses r 6 14 0
 ShownOf passed q r = Refuses r 6 14 0
 ShownOf (failed run) q r = CodeOf run q r
@@ -76,9 +76,9 @@ module _ {S : Type 0} (c : CellMeaning) (w : WatchMeaning S) (kind : KeyMeaning 
   outcome n u = says (after c w kind n u)
 
   -- a reply that pays what is due. Whatever is told of a check obeys the law of a check: see Law
-  abbrev pub Pays : Due → Reply → Type 0
+  abbrev pub Pays : Due → Result Reply Refusal → Type 0
   Pays (told n u) r =
-      (a : Answer) × (r ≡ Told a) × Law c w n u (outcome n u) × Tells (outcome n u) a × (a.stored ≡ length (after c w kind n u).stored)
+      (a : Answer) × (r ≡ Ok (Told a)) × Law c w n u (outcome n u) × Tells (outcome n u) a × (a.stored ≡ length (after c w kind n u).stored)
   Pays (code n u q) r = Law c w n u (outcome n u) × ShownOf (outcome n u) q r
   Pays (refused l k p) r = Refuses r l k p
 
@@ -88,23 +88,14 @@ module _ {S : Type 0} (c : CellMeaning) (w : WatchMeaning S) (kind : KeyMeaning 
     pub stands : Stands c w kind h.units k (take h.places xs)
 
   -- one call, with p places
-  pub record Responds (call : Call) (p : ℕ) (k k' : Check) (xs ys : List (Record (Configuration S))) (r : Reply) : Type 0 where
+  pub record Responds (call : Call) (p : ℕ) (k k' : Check) (xs ys : List (Record (Configuration S))) (r : Result Reply Refusal) : Type 0 where
     pub pays : (h : History) → Keeps h k xs → Pays (due h call p) r
     pub keeps : (h : History) → Keeps h k xs → Keeps (granted h call p) k' ys
 
--- what a result becomes as a reply
-abbrev pub replied : Result Answer Refusal → Reply
-replied (Ok a) = Told a
-replied (Err e) = Refused e
-
-abbrev pub coded : Result ℕ Refusal → Reply
-coded (Ok y) = Code y
-coded (Err e) = Refused e
-
--- the open check, and the reply, after a call to open
-abbrev pub Opened : Result (Check × Answer) Refusal → Check → Check → Reply → Type 0
-Opened (Ok a) k k' r = (k' ≡ a.0) × (r ≡ Told a.1)
-Opened (Err e) k k' r = (k' ≡ k) × (r ≡ Refused e)
+-- the open check, and the answer, after a call to open
+abbrev pub Opened : Result (Check × Answer) Refusal → Check → Check → Result Answer Refusal → Type 0
+Opened (Ok a) k k' r = (k' ≡ a.0) × (r ≡ Ok a.1)
+Opened (Err e) k k' r = (k' ≡ k) × (r ≡ Err e)
 
 -- how many places a call has of a table of N
 abbrev pub places : ℕ → Asked → ℕ
@@ -116,14 +107,14 @@ history N h [] = h
 history N h (a ∷ more) = history N (granted h a.call (places N a)) more
 
 -- each of the first m replies pays what is due to its call, by the calls before it
-abbrev pub Replayed : {S : Type 0} → CellMeaning → WatchMeaning S → KeyMeaning S → ℕ → History → List Asked → List Reply → ℕ → Type 0
+abbrev pub Replayed : {S : Type 0} → CellMeaning → WatchMeaning S → KeyMeaning S → ℕ → History → List Asked → List (Result Reply Refusal) → ℕ → Type 0
 Replayed c w kind N h calls replies m =
-    (j : ℕ) (a : Asked) (r : Reply) → j < m → at calls j ≡ Some a → at replies j ≡ Some r → Pays c w kind (due (history N h (take j calls)) a.call (places N a)) r
+    (j : ℕ) (a : Asked) (r : Result Reply Refusal) → j < m → at calls j ≡ Some a → at replies j ≡ Some r → Pays c w kind (due (history N h (take j calls)) a.call (places N a)) r
 
 -- a replay in a table of N places that begins by opening a check in p of them: over 1,000,000 are refused with LARGE, and
 -- table and replies stay as they were; else the opening and every call is answered as is due to it, as far as there is
 -- room for replies, and the replies behind them stay as they were
-abbrev pub Replays : {S : Type 0} → CellMeaning → WatchMeaning S → KeyMeaning S → ℕ → List Asked → List (Record (Configuration S)) → List (Record (Configuration S)) → List Reply → List Reply → Result Answer Refusal → Type 0
+abbrev pub Replays : {S : Type 0} → CellMeaning → WatchMeaning S → KeyMeaning S → ℕ → List Asked → List (Record (Configuration S)) → List (Record (Configuration S)) → List (Result Reply Refusal) → List (Result Reply Refusal) → Result Answer Refusal → Type 0
 Replays c w kind p calls xs ys old new (Ok a) =
-    (p ≤ 1000000) × Pays c w kind (told p 0) (Told a) × Replayed c w kind (length xs) (since p 0) calls new (length calls) × (drop (length calls) new ≡ drop (length calls) old)
+    (p ≤ 1000000) × Pays c w kind (told p 0) (Ok (Told a)) × Replayed c w kind (length xs) (since p 0) calls new (length calls) × (drop (length calls) new ≡ drop (length calls) old)
 Replays c w kind p calls xs ys old new (Err e) = (1000000 < p) × (ys ≡ xs) × (new ≡ old) × (reply e ≡ (6, 17, p))

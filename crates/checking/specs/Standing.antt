@@ -1,5 +1,5 @@
 -- What a check and its table stand for: the definition of a check after so many units of work. Assumes nothing.
-use Rattle.std.specs.Prelude.{◌≡◌, ℕ, ◌+◌, ◌<◌, ◌≤◌, true, cond, List, length, drop, Some, None, Option, ◌==◌, nat_lt}
+use Rattle.std.specs.Prelude.{◌≡◌, ℕ, ◌+◌, ◌<◌, ◌≤◌, true, cond, List, length, drop, Some, None, Option, Ok, Err, Result, ◌==◌, nat_lt}
 use Rattle.model.specs.Cells.{CellMeaning}
 use Rattle.model.specs.Entries.{Entry}
 use Rattle.model.specs.Keys.{KeyMeaning, configuration_key}
@@ -10,11 +10,13 @@ use Rattle.model.specs.declared.configuration.Configuration.{Configuration}
 use Rattle.levels.specs.Units as units
 use Rattle.levels.specs.Units.{Standing, looking, extending, passing, failing, filled, blamed, put_nexts, looked, extended}
 use Rattle.store.specs.Entries.{entries}
+use Rattle.store.specs.Keeping.{KeptSo, now_stored}
+use Rattle.store.specs.declared.adding.NoPlace.{NoPlace}
 use Rattle.store.specs.declared.record.Record.{Record}
 use Rattle.checking.specs.declared.phase.Phase.{Phase}
 use Rattle.checking.specs.declared.phase.Phase.TheVariants.{Looking, Extending, Passing, Failing, Filled}
 use Rattle.checking.specs.declared.state.Check.{Check}
-use Rattle.checking.specs.Keeping.{Sound, KeptSo, now_stored}
+use Rattle.checking.specs.Keeping.{Sound}
 
 -- the phase of a check, as the definition has it
 abbrev pub phase_of : Phase → units.Phase
@@ -80,9 +82,9 @@ pub record Adds {S : Type 0} (k k' : Check) (xs ys : List (Record (Configuration
   pub beyond : drop k'.stored ys ≡ drop k'.stored xs
 
 -- the phase after a configuration was kept, or found no place
-abbrev pub kept_phase : Option ℕ → units.Phase → units.Phase
-kept_phase None ph = filled
-kept_phase (Some m) ph = ph
+abbrev pub kept_phase : Result ℕ NoPlace → units.Phase → units.Phase
+kept_phase (Ok m) ph = ph
+kept_phase (Err e) ph = filled
 
 -- nothing changes
 abbrev pub Same : {S : Type 0} → units.Phase → units.Phase → ℕ → ℕ → List (Record (Configuration S)) → List (Record (Configuration S)) → Type 0
@@ -91,16 +93,9 @@ Same ph ph' m m' xs ys = (ph' ≡ ph) × (m' ≡ m) × (ys ≡ xs)
 -- what the code y does with m records stored, by the phase and by what it turned up, a configuration or none
 abbrev pub Met : {S : Type 0} → KeyMeaning S → ℕ → Option (Configuration S) → units.Phase → units.Phase → ℕ → ℕ → List (Record (Configuration S)) → List (Record (Configuration S)) → Type 0
 Met kind y None (looking j low i) ph' m m' xs ys = Same (failing j i y) ph' m m' xs ys
-Met kind y (Some key) (looking j low i) ph' m m' xs ys = Same (looking j low i) ph' m m' xs ys
-Met kind y None (extending j end i) ph' m m' xs ys = Same (extending j end i) ph' m m' xs ys
 Met kind y (Some key) (extending j end i) ph' m m' xs ys =
-    (r : Option ℕ) × KeptSo (configuration_key kind) xs ys m key i r × (m' ≡ now_stored m r) × (ph' ≡ kept_phase r (extending j end i))
-Met kind y None passing ph' m m' xs ys = Same passing ph' m m' xs ys
-Met kind y (Some key) passing ph' m m' xs ys = Same passing ph' m m' xs ys
-Met kind y None (failing b i z) ph' m m' xs ys = Same (failing b i z) ph' m m' xs ys
-Met kind y (Some key) (failing b i z) ph' m m' xs ys = Same (failing b i z) ph' m m' xs ys
-Met kind y None filled ph' m m' xs ys = Same filled ph' m m' xs ys
-Met kind y (Some key) filled ph' m m' xs ys = Same filled ph' m m' xs ys
+    (r : Result ℕ NoPlace) × KeptSo (configuration_key kind) xs ys m key i r × (m' ≡ now_stored m r) × (ph' ≡ kept_phase r (extending j end i))
+Met kind y turned ph ph' m m' xs ys = Same ph ph' m m' xs ys
 
 -- going through next codes: with `before` of them to come at first and `behind` at last, the rest of the unit comes to
 -- the same, if the records are stored in order and the configuration's first code is a state

@@ -1,8 +1,8 @@
 // The calls of a check, and what they answer, as values.
-use model::{Answer, Refusal};
+use model::Answer;
 
 // One of the five calls.
-#[derive(Clone, Copy)]
+#[derive(Clone, Copy, Debug, PartialEq, Eq)]
 pub enum Call {
     Open,
     Work(u64),
@@ -12,16 +12,15 @@ pub enum Call {
 }
 
 // A call, and how many places of the table it is made with.
-#[derive(Clone, Copy)]
+#[derive(Clone, Copy, Debug, PartialEq, Eq)]
 pub struct Asked {
     pub call: Call,
     pub places: usize,
 }
 
-// What a call answers.
-#[derive(Clone, Copy)]
+// What a call answers that is not turned away.
+#[derive(Clone, Copy, Debug, PartialEq, Eq)]
 pub enum Reply {
     Told(Answer),
     Code(u64),
-    Refused(Refusal),
 }

@@ -2,10 +2,9 @@
 #![tactic(auto)]
 
 mod calls;
-mod keeping;
-mod onward;
 mod opening;
 mod phase;
+mod product;
 mod replaying;
 mod shown;
 mod state;

@@ -1,7 +1,7 @@
 // What a check is doing, or how it was settled.
 
 // Levels and places are counted in 32 bits: a table has at most 1,000,000 places.
-#[derive(Clone, Copy)]
+#[derive(Clone, Copy, Debug, PartialEq, Eq)]
 pub enum Phase {
     // looking through a level that begins at place `low`, with place `next` to come
     Looking { level: u32, low: u32, next: u32 },

@@ -1,93 +1,69 @@
 // A list of calls, replayed in one table: what each of them answers is true of all runs of the cell.
 ghost use Rattle.std.specs.Prelude.{◌≡◌, ℕ, min, length, drop, Result};
 ghost use Rattle.checking.specs.Opening.{Opens};
-ghost use Rattle.checking.specs.Replay.{History, Keeps, Opened, replied, coded, Responds, Replayed, Replays};
+ghost use Rattle.checking.specs.Replay.{History, Keeps, Opened, Responds, Replayed, Replays};
 
 use crate::calls::{Asked, Call, Reply};
+use crate::product::Product;
 use crate::state::Check;
 use model::{Answer, Cell, Configuration, Refusal, Watch};
 use store::Record;
 
-fn to_reply(answer: Result<Answer, Refusal>) -> Reply
-    ensures { result ≡ replied answer }
-{
-    match answer {
-        Ok(answer) => Reply::Told(answer),
-        Err(refusal) => Reply::Refused(refusal),
-    }
-}
-
-fn to_code(code: Result<u64, Refusal>) -> Reply
-    ensures { result ≡ coded code }
-{
-    match code {
-        Ok(code) => Reply::Code(code),
-        Err(refusal) => Reply::Refused(refusal),
-    }
-}
-
 // Opens a check; the one before is let go where that succeeds.
 fn open<C: Cell, W: Watch>(
     check: &mut Check,
-    cell: &C,
-    watch: &W,
+    product: &Product<C, W>,
     table: &mut [Record<Configuration<W::State>>],
-) -> Reply
-    ensures { (a : Result (Check × Answer) Refusal) × Opens (C.Cell.cell cell.now) (W.Watch.watch watch.now) W.State.Key.kind table.old table.new a × Opened a check.old check.new result }
+) -> Result<Answer, Refusal>
+    ensures { (a : Result (Check × Answer) Refusal) × Opens (C.Cell.cell product.now.cell.now) (W.Watch.watch product.now.watch.now) W.State.Key.kind table.old table.new a × Opened a check.old check.new result }
 {
-    match Check::open(cell, watch, table) {
-        Ok((opened, answer)) => {
-            *check = opened;
-            Reply::Told(answer)
-        }
-        Err(refusal) => Reply::Refused(refusal),
-    }
+    let (opened, answer) = Check::open(product.cell, product.watch, table)?;
+    *check = opened;
+    Ok(answer)
 }
 
-// One call, with so many places of the table.
+// One call, with its places of the table.
 fn respond<C: Cell, W: Watch>(
     check: &mut Check,
-    cell: &C,
-    watch: &W,
+    product: &Product<C, W>,
     table: &mut [Record<Configuration<W::State>>],
-    call: Call,
-    places: usize,
-) -> Reply
-    ensures { Responds (C.Cell.cell cell.now) (W.Watch.watch watch.now) W.State.Key.kind call (min places (length table.old)) check.old check.new table.old table.new result }
+    asked: &Asked,
+) -> Result<Reply, Refusal>
+    ensures { Responds (C.Cell.cell product.now.cell.now) (W.Watch.watch product.now.watch.now) W.State.Key.kind asked.now.call (min asked.now.places (length table.old)) check.old check.new table.old table.new result }
 {
-    let places = places.min(table.len());
-    let part = &mut table[0..places];
-    match call {
-        Call::Open => open(check, cell, watch, part),
-        Call::Work(units) => to_reply(check.work(cell, watch, part, units)),
-        Call::Restart => to_reply(check.restart(cell, watch, part)),
-        Call::Verdict => Reply::Told(check.verdict()),
-        Call::Shown(place) => to_code(check.shown_state(part, place)),
+    let places = asked.places.min(table.len());
+    let part = &mut table[..places];
+    // A switch: calls are data that a caller lists, and a closure for each would have to be handed out boxed.
+    match asked.call {
+        Call::Open => open(check, product, part).map(Reply::Told),
+        Call::Work(units) => check
+            .work(product.cell, product.watch, part, units)
+            .map(Reply::Told),
+        Call::Restart => check
+            .restart(product.cell, product.watch, part)
+            .map(Reply::Told),
+        Call::Verdict => Ok(Reply::Told(check.verdict())),
+        Call::Shown(place) => check.shown_state(part, place).map(Reply::Code),
     }
 }
 
 // Makes the calls one after another, as far as there is room for replies.
 fn go_on<C: Cell, W: Watch>(
     check: &mut Check,
-    cell: &C,
-    watch: &W,
+    product: &Product<C, W>,
     table: &mut [Record<Configuration<W::State>>],
     calls: &[Asked],
-    replies: &mut [Reply],
+    replies: &mut [Result<Reply, Refusal>],
 )
-    ensures pays { (h : History) → Keeps (C.Cell.cell cell.now) (W.Watch.watch watch.now) W.State.Key.kind h check.old table.old → Replayed (C.Cell.cell cell.now) (W.Watch.watch watch.now) W.State.Key.kind (length table.old) h calls.now replies.new (length calls.now) }
+    ensures pays { (h : History) → Keeps (C.Cell.cell product.now.cell.now) (W.Watch.watch product.now.watch.now) W.State.Key.kind h check.old table.old → Replayed (C.Cell.cell product.now.cell.now) (W.Watch.watch product.now.watch.now) W.State.Key.kind (length table.old) h calls.now replies.new (length calls.now) }
     ensures rest { drop (length calls.now) replies.new ≡ drop (length calls.now) replies.old }
 {
-    let count = calls.len().min(replies.len());
-    for place in 0..count {
-        replies[place] = respond(
-            check,
-            cell,
-            watch,
-            table,
-            calls[place].call,
-            calls[place].places,
-        );
+    // By its number: over `iter_mut().zip(calls)` the loop has the pairs so far, not the row; its proof didn't close.
+    for (place, reply) in replies.iter_mut().enumerate() {
+        let Some(asked) = calls.get(place) else {
+            return;
+        };
+        *reply = respond(check, product, table, asked);
     }
 }
 
@@ -99,16 +75,12 @@ pub fn replay<C: Cell, W: Watch>(
     table: &mut [Record<Configuration<W::State>>],
     places: usize,
     calls: &[Asked],
-    replies: &mut [Reply],
+    replies: &mut [Result<Reply, Refusal>],
 ) -> Result<Answer, Refusal>
     ensures { Replays (C.Cell.cell cell.now) (W.Watch.watch watch.now) W.State.Key.kind (min places (length table.old)) calls.now table.old table.new replies.old replies.new result }
 {
     let places = places.min(table.len());
-    match Check::open(cell, watch, &mut table[0..places]) {
-        Ok((mut check, answer)) => {
-            go_on(&mut check, cell, watch, table, calls, replies);
-            Ok(answer)
-        }
-        Err(refusal) => Err(refusal),
-    }
+    let (mut check, answer) = Check::open(cell, watch, &mut table[..places])?;
+    go_on(&mut check, &Product { cell, watch }, table, calls, replies);
+    Ok(answer)
 }

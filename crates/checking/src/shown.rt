@@ -9,25 +9,20 @@ use model::{Cause, Configuration, Key, Layer, Refusal};
 use store::Record;
 
 // The place that the record at a place was reached from, 0 past the table's end.
+// Here and in `last` no Option would be plainer: a run never leads past the end, and its definition reads 0 there.
 fn from<S: Key>(table: &[Record<Configuration<S>>], place: u32) -> u32
     ensures { result ≡ from_at (whole table.now) place }
 {
-    let place = place as usize;
-    if place >= table.len() {
-        return 0;
-    }
-    table[place].from
+    table.get(place as usize).map_or(0, |record| record.from)
 }
 
 // The last code of the configuration at a place, 0 past the table's end.
 fn last<S: Key>(table: &[Record<Configuration<S>>], place: u32) -> u64
     ensures { result ≡ last_at (whole table.now) place }
 {
-    let place = place as usize;
-    if place >= table.len() {
-        return 0;
-    }
-    table[place].key.last
+    table
+        .get(place as usize)
+        .map_or(0, |record| record.key.last)
 }
 
 // The place that comes so many steps before another.
@@ -57,19 +52,11 @@ impl Check {
             code,
         } = self.phase
         else {
-            return Err(Refusal {
-                layer: Layer::Check,
-                cause: Cause::NoRun,
-                place: 0,
-            });
+            return Err(Refusal::new(Layer::Check, Cause::NoRun, 0));
         };
         let count = before as usize;
         if place > count {
-            return Err(Refusal {
-                layer: Layer::Check,
-                cause: Cause::Beyond,
-                place,
-            });
+            return Err(Refusal::new(Layer::Check, Cause::Beyond, place));
         }
         if place == count {
             return Ok(code);
@@ -88,17 +75,14 @@ impl Check {
         ensures { ShownAll self.now table.now out.old out.new result }
     {
         self.fits(table.len())?;
+        // As in `shown_state`, whose form stays.
         let Phase::Failing {
             before,
             place,
             code,
         } = self.phase
         else {
-            return Err(Refusal {
-                layer: Layer::Check,
-                cause: Cause::NoRun,
-                place: 0,
-            });
+            return Err(Refusal::new(Layer::Check, Cause::NoRun, 0));
         };
         put(out, before, code);
         hand_out(table, place, before, out);
@@ -111,6 +95,7 @@ fn put(out: &mut [u64], place: u32, code: u64)
     ensures { out.new ≡ slice_set out.old place code }
 {
     let place = place as usize;
+    // By its index: after a write through `get_mut` nothing is known of the other places, so the proof doesn't close.
     if place < out.len() {
         out[place] = code;
     }

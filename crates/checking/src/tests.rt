@@ -25,10 +25,7 @@ impl Cell for Line {
     }
 
     fn start_at(&self, place: usize) -> Option<u64> {
-        if !self.on || place >= 2 {
-            return None;
-        }
-        Some(0)
+        (self.on && place < 2).then_some(0)
     }
 
     fn next_count(&self, code: u64) -> usize {
@@ -67,10 +64,7 @@ impl Watch for Below {
     }
 
     fn step(&self, state: &u64, moment: &Moment) -> Option<u64> {
-        if moment.label >= self.limit {
-            return None;
-        }
-        Some(*state)
+        (moment.label < self.limit).then_some(*state)
     }
 }
 
@@ -94,11 +88,7 @@ fn told(verdict: Verdict, count: usize, stored: usize) -> Answer {
 }
 
 fn refusal(cause: Cause, place: usize) -> Refusal {
-    Refusal {
-        layer: Layer::Check,
-        cause,
-        place,
-    }
+    Refusal::new(Layer::Check, cause, place)
 }
 
 fn opened(
@@ -120,10 +110,7 @@ fn opens(rt: HostRuntime) -> Result<(), Fail> {
     assert_eq!(rt; opened(true, 4, &mut []), Ok(told(Verdict::Full, 0, 0)));
     assert_eq!(rt; opened(false, 0, &mut []), Ok(told(Verdict::Pass, 0, 0)));
     assert_eq!(rt; opened(true, 0, &mut []), Ok(told(Verdict::Fail, 1, 0)));
-    let mut table = Vec::new(rt.alloc());
-    for _place in 0..1_000_001 {
-        table.push(blank())?;
-    }
+    let mut table = vec![in rt.alloc(); blank(); 1_000_001]?;
     assert_eq!(rt;
         opened(true, 4, &mut table),
         Err(refusal(Cause::Large, 1_000_001))
@@ -144,8 +131,8 @@ fn unit_by_unit(
     table: &mut [Record<Configuration<u64>>],
     answers: &[Answer],
 ) {
-    for place in 0..answers.len() {
-        assert_eq!(rt; check.work(&LINE, watch, table, 1), Ok(answers[place]));
+    for answer in answers {
+        assert_eq!(rt; check.work(&LINE, watch, table, 1), Ok(*answer));
     }
 }
 
@@ -260,14 +247,6 @@ fn asked(call: Call, places: usize) -> Asked {
     Asked { call, places }
 }
 
-fn parts(reply: Reply) -> (Option<Answer>, Option<u64>, Option<Refusal>) {
-    match reply {
-        Reply::Told(answer) => (Some(answer), None, None),
-        Reply::Code(code) => (None, Some(code), None),
-        Reply::Refused(refusal) => (None, None, Some(refusal)),
-    }
-}
-
 // Each call has its own number of places, and a reply without a call stays as it was.
 #[test]
 fn replays(rt: HostRuntime) -> Result<(), Fail> {
@@ -282,22 +261,20 @@ fn replays(rt: HostRuntime) -> Result<(), Fail> {
         asked(Call::Verdict, 0),
     ];
     let replies = [
-        Reply::Told(told(Verdict::Working, 2, 2)),
-        Reply::Refused(refusal(Cause::Misfit, 7)),
-        Reply::Refused(refusal(Cause::NoRun, 0)),
-        Reply::Told(told(Verdict::Fail, 3, 2)),
-        Reply::Code(2),
-        Reply::Told(told(Verdict::Working, 1, 1)),
-        Reply::Told(told(Verdict::Full, 0, 1)),
-        Reply::Told(told(Verdict::Full, 0, 1)),
-        Reply::Code(9),
+        Ok(Reply::Told(told(Verdict::Working, 2, 2))),
+        Err(refusal(Cause::Misfit, 7)),
+        Err(refusal(Cause::NoRun, 0)),
+        Ok(Reply::Told(told(Verdict::Fail, 3, 2))),
+        Ok(Reply::Code(2)),
+        Ok(Reply::Told(told(Verdict::Working, 1, 1))),
+        Ok(Reply::Told(told(Verdict::Full, 0, 1))),
+        Ok(Reply::Told(told(Verdict::Full, 0, 1))),
+        Ok(Reply::Code(9)),
     ];
-    let mut got = [Reply::Code(9); 9];
+    let mut got = [Ok(Reply::Code(9)); 9];
     let mut table = [blank(); 8];
     let answer = replay(&LINE, &Below { limit: 2 }, &mut table, 8, &calls, &mut got);
     assert_eq!(rt; answer, Ok(told(Verdict::Working, 1, 1)));
-    for place in 0..9 {
-        assert_eq!(rt; parts(got[place]), parts(replies[place]));
-    }
+    assert_eq!(rt; got, replies);
     Ok(())
 }

@@ -2,13 +2,13 @@
 ghost use Rattle.std.specs.Prelude.{◌≡◌, ℕ, ◌+◌, []};
 ghost use Rattle.checking.specs.Standing.{phase_of, place_of, Met, Adds, Goes, Countable, advanced, Stands};
 
-use crate::keeping::keep;
-use crate::onward::{onward, reading};
 use crate::phase::Phase;
+use crate::product::Product;
 use crate::state::Check;
-use model::{Cell, Configuration, Key, Watch};
-use store::Record;
+use model::{Cell, Configuration, Key, Watch, read};
+use store::{NoPlace, Record, keep};
 
+// That a phase's numbers can be counted further is no invariant: `advance` does count, and only the table bounds that.
 impl Check {
     // What a next code does, by the phase that the check is in and by what the code turned up.
     fn meet<S: Key>(
@@ -37,8 +37,8 @@ impl Check {
                 key,
                 *next,
             ) {
-                Some(stored) => self.stored = stored,
-                None => self.phase = Phase::Filled,
+                Ok(stored) => self.stored = stored,
+                Err(NoPlace) => self.phase = Phase::Filled,
             },
             _ => {}
         }
@@ -47,19 +47,21 @@ impl Check {
     // Takes the next codes of a configuration in order. Once a code settles the check, the others change nothing.
     fn through<C: Cell, W: Watch>(
         &mut self,
-        cell: &C,
-        watch: &W,
+        product: &Product<C, W>,
         table: &mut [Record<Configuration<W::State>>],
         key: &Configuration<W::State>,
     )
         ensures adds { Adds self.old self.new table.old table.new }
-        ensures goes { Goes (C.Cell.cell cell.now) (W.Watch.watch watch.now) W.State.Key.kind key.now ((C.Cell.cell cell.now).nexts key.now.last) [] self.old self.new table.old table.new }
+        ensures goes { Goes (C.Cell.cell product.now.cell.now) (W.Watch.watch product.now.watch.now) W.State.Key.kind key.now ((C.Cell.cell product.now.cell.now).nexts key.now.last) [] self.old self.new table.old table.new }
         ensures counts { Countable self.old.phase → Countable self.new.phase }
     {
-        let start = reading(cell, key.first);
-        for place in 0..cell.next_count(key.last) {
-            if let Some(code) = cell.next_at(key.last, place) {
-                let turned = onward(cell, watch, key.first, &start, &key.state, code);
+        let Some(start) = read(product.cell, key.first) else {
+            return;
+        };
+        // By place, as a cell hands its codes out: a loop over a chain of them gets no proof.
+        for place in 0..product.cell.next_count(key.last) {
+            if let Some(code) = product.cell.next_at(key.last, place) {
+                let turned = product.onward(key.first, &start, &key.state, code);
                 self.meet(table, turned, code);
             }
         }
@@ -106,8 +108,7 @@ impl Check {
         ensures { result ≡ place_of (phase_of self.now.phase) }
     {
         match self.phase {
-            Phase::Looking { next, .. } => Some(next),
-            Phase::Extending { next, .. } => Some(next),
+            Phase::Looking { next, .. } | Phase::Extending { next, .. } => Some(next),
             _ => None,
         }
     }
@@ -115,21 +116,20 @@ impl Check {
     // One unit of work. A settled check is left as it is, and so is one whose table does not hold its places.
     pub(crate) fn unit<C: Cell, W: Watch>(
         &mut self,
-        cell: &C,
-        watch: &W,
+        product: &Product<C, W>,
         table: &mut [Record<Configuration<W::State>>],
     )
         ensures adds { Adds self.old self.new table.old table.new }
-        ensures stands { (u : ℕ) → Stands (C.Cell.cell cell.now) (W.Watch.watch watch.now) W.State.Key.kind u self.old table.old → Stands (C.Cell.cell cell.now) (W.Watch.watch watch.now) W.State.Key.kind (u + 1) self.new table.new }
+        ensures stands { (u : ℕ) → Stands (C.Cell.cell product.now.cell.now) (W.Watch.watch product.now.watch.now) W.State.Key.kind u self.old table.old → Stands (C.Cell.cell product.now.cell.now) (W.Watch.watch product.now.watch.now) W.State.Key.kind (u + 1) self.new table.new }
     {
         let Some(place) = self.place() else {
             return;
         };
-        if place as usize >= table.len() {
+        let Some(record) = table.get(place as usize) else {
             return;
-        }
-        let key = table[place as usize].key;
-        self.through(cell, watch, table, &key);
+        };
+        let key = record.key;
+        self.through(product, table, &key);
         self.advance();
     }
 }

@@ -13,33 +13,17 @@ impl Check {
     pub fn verdict(&self) -> Answer
         ensures { result ≡ told (phase_of self.now.phase) self.now.stored }
     {
-        let stored = self.stored as usize;
-        match self.phase {
-            Phase::Looking { level, .. } => Answer {
-                verdict: Verdict::Working,
-                count: level as usize,
-                stored,
-            },
-            Phase::Extending { level, .. } => Answer {
-                verdict: Verdict::Working,
-                count: level as usize + 1,
-                stored,
-            },
-            Phase::Passing => Answer {
-                verdict: Verdict::Pass,
-                count: 0,
-                stored,
-            },
-            Phase::Failing { before, .. } => Answer {
-                verdict: Verdict::Fail,
-                count: before as usize + 1,
-                stored,
-            },
-            Phase::Filled => Answer {
-                verdict: Verdict::Full,
-                count: 0,
-                stored,
-            },
+        let (verdict, count) = match self.phase {
+            Phase::Looking { level, .. } => (Verdict::Working, level as usize),
+            Phase::Extending { level, .. } => (Verdict::Working, level as usize + 1),
+            Phase::Passing => (Verdict::Pass, 0),
+            Phase::Failing { before, .. } => (Verdict::Fail, before as usize + 1),
+            Phase::Filled => (Verdict::Full, 0),
+        };
+        Answer {
+            verdict,
+            count,
+            stored: self.stored as usize,
         }
     }
 
@@ -48,11 +32,7 @@ impl Check {
         ensures { Fits self.now.places length result }
     {
         if length != self.places {
-            return Err(Refusal {
-                layer: Layer::Check,
-                cause: Cause::Misfit,
-                place: length,
-            });
+            return Err(Refusal::new(Layer::Check, Cause::Misfit, length));
         }
         Ok(())
     }

@@ -14,7 +14,7 @@ use Rattle.text.specs.declared.word.Scope.TheVariants.{Every}
 use Rattle.text.specs.Derivations.{Condition, condition, Tests, onto_test}
 use Rattle.text.specs.Table.{Role, Item, operand, more, one_test, joined, comparison, close_paren, close_bracket, bracketed, semicolon, becomes, sensed, guard, statement, other, end_if, end_while, block, statements, declarations, declared_letter, bound, bare_bound, close_declaration, unit, repeats, more_labels, label, label_set, colon, group, expression, target, edges, rules_of, optional, table}
 use Rattle.text.specs.Charges.{causes, counting, open_memo}
-use Rattle.text.specs.Reading.{reads, Here, Goes, cause_of, FaultAt}
+use Rattle.text.specs.Reading.{reads, Here, Goes, FaultAt}
 use Rattle.text.specs.Outcomes.{TestRead, Stopped}
 use Rattle.text.proofs.Closed.{closable}
 use Rattle.text.proofs.Derived.{condition_reads}
@@ -119,11 +119,12 @@ module _ (bs : List ℕ) (n : ℕ) (short : length bs ≤ 4096) where
   faulty f g = inr (record { short = short; rest = g.words; place_is = g.place_is; deserved = subst (Deserved table causes IsCondition (counting open_memo n) condition_start (words bs)) (g.stops (counting open_memo n) [] (start n)) (meant (words bs) n) })
 
   -- a word behind the expression
-  pub too_much : (x y : Expressions) (i : ℕ) (rest : List Word) (w : Word) (ws : List Word) (f : Fault) → x.counted ≡ n → TestRead (one_test ∷ joined ∷ []) Condition Every 16 (words bs) x y i rest → rest ≡ w ∷ ws → FaultAt (length bs) rest f → BadCondition bs n f
-  too_much x y i rest w ws f c r e g = inr (record { short = short; rest = rest; place_is = g.place_is; deserved = subst (Deserved table causes IsCondition (counting open_memo n) condition_start (words bs)) (goes ∙ ap (λ v. reads v (counting open_memo y.counted) []) e ∙ reading_stuck table causes w ws (counting open_memo y.counted) [] refl ∙ ap (λ v. fault (cause_of v) v) (sym e) ∙ ap (λ v. fault v rest) (sym g.cause_is)) (meant (words bs) n) })
+  pub too_much : (x y : Expressions) (i : ℕ) (rest : List Word) (f : Fault) → x.counted ≡ n → TestRead (one_test ∷ joined ∷ []) Condition Every 16 (words bs) x y i rest → (length rest ≡ 0 → ⊥) → FaultAt (length bs) rest f → BadCondition bs n f
+  too_much x y i [] f c r e g = absurd (e refl)
+  too_much x y i (w ∷ ws) f c r e g = inr (record { short = short; rest = w ∷ ws; place_is = g.place_is; deserved = subst (Deserved table causes IsCondition (counting open_memo n) condition_start (words bs)) (goes ∙ reading_stuck table causes w ws (counting open_memo y.counted) [] refl ∙ ap (λ v. fault v (w ∷ ws)) (sym g.cause_is)) (meant (words bs) n) })
     where
-      goes : reads (words bs) (counting open_memo n) condition_start ≡ reads rest (counting open_memo y.counted) []
-      goes = subst (λ v. Goes v Every 16 (one_test ∷ joined ∷ []) (words bs) rest y.counted) c r.goes (counting open_memo n) [] (start n)
+      goes : reads (words bs) (counting open_memo n) condition_start ≡ reads (w ∷ ws) (counting open_memo y.counted) []
+      goes = subst (λ v. Goes v Every 16 (one_test ∷ joined ∷ []) (words bs) (w ∷ ws) y.counted) c r.goes (counting open_memo n) [] (start n)
 
   -- nothing behind it
   pub good_text : (x y : Expressions) (i : ℕ) (rest : List Word) → x.counted ≡ n → TestRead (one_test ∷ joined ∷ []) Condition Every 16 (words bs) x y i rest → rest ≡ [] → GoodCondition bs n y i

@@ -1,8 +1,8 @@
 -- What the answers on a text that is to be one boolean expression mean. Assumes nothing.
-use Rattle.std.specs.Prelude.{◌≡◌, ℕ, ◌<◌, ◌≤◌, ◌⊎◌, List, [], ◌∷◌, length, vec_items}
+use Rattle.std.specs.Prelude.{◌≡◌, ℕ, ◌≤◌, ◌⊎◌, List, [], ◌∷◌, length, vec_items}
 use Rattle.grammar.specs.Answers.{good, fault, Deserved}
-use Rattle.model.specs.declared.refusal.Cause.TheVariants.{Length}
 use Rattle.lexing.specs.Lexing.{words}
+use Rattle.lexing.specs.Cut.{TooLong}
 use Rattle.text.specs.declared.expressions.Expressions.{Expressions}
 use Rattle.text.specs.declared.reading.Fault.{Fault}
 use Rattle.text.specs.declared.word.Word.{Word}
@@ -31,12 +31,6 @@ pub record GoodCondition (bs : List ℕ) (n : ℕ) (y : Expressions) (i : ℕ) :
   pub memo : Memo
   pub deserved : Deserved table causes IsCondition (counting open_memo n) condition_start (words bs) (good memo)
 
--- a text that is too long
-pub record LongText (bs : List ℕ) (f : Fault) : Type 0 where
-  pub long : 4096 < length bs
-  pub cause_is : f.cause ≡ Length
-  pub place_is : f.place ≡ 4096
-
 -- a text whose first fault this is: the words from the faulty one on give the place
 pub record FaultyText (bs : List ℕ) (n : ℕ) (f : Fault) : Type 0 where
   pub short : length bs ≤ 4096
@@ -45,4 +39,4 @@ pub record FaultyText (bs : List ℕ) (n : ℕ) (f : Fault) : Type 0 where
   pub deserved : Deserved table causes IsCondition (counting open_memo n) condition_start (words bs) (fault f.cause rest)
 
 abbrev pub BadCondition : List ℕ → ℕ → Fault → Type 0
-BadCondition bs n f = LongText bs f ⊎ FaultyText bs n f
+BadCondition bs n f = TooLong bs f ⊎ FaultyText bs n f

@@ -3,14 +3,7 @@ ghost use Rattle.std.specs.Prelude.{◌≡◌, MatchResult};
 ghost use Rattle.conditions.specs.Meaning.{GoodCondition, BadCondition};
 
 use lexing::Words;
-use model::Cause;
-use text::{Expressions, Fault, Limits, Scope, condition, first, unexpected};
-
-// The most bytes of a text.
-const LONGEST: usize = 4096;
-
-// The most that may be open at one word.
-const DEEPEST: usize = 16;
+use text::{Expressions, Fault, Limits, Scope, condition, unexpected};
 
 // An expression that has been read, and the place of its last node.
 #[derive(Drop)]
@@ -27,22 +20,14 @@ pub fn read_condition(
 ) -> Result<ConditionText, Fault>
     ensures { MatchResult result (λ x. GoodCondition text.now room.counted x.expressions x.index) (λ f. BadCondition text.now room.counted f) }
 {
-    if !words.cut(text) {
-        return Err(Fault {
-            cause: Cause::Length,
-            place: LONGEST,
-        });
+    words.cut(text)?;
+    let limits = Limits::new(Scope::Every, text.len());
+    let read = condition(words.list(), limits, &mut room)?;
+    if !read.rest.is_empty() {
+        return Err(unexpected(read.rest, limits.end));
     }
-    let limits = Limits {
-        scope: Scope::Every,
-        end: text.len(),
-    };
-    let read = condition(words.list(), limits, DEEPEST, &mut room)?;
-    match first(read.rest) {
-        Some(_) => Err(unexpected(read.rest, limits.end)),
-        None => Ok(ConditionText {
-            expressions: room,
-            index: read.index,
-        }),
-    }
+    Ok(ConditionText {
+        expressions: room,
+        index: read.index,
+    })
 }

@@ -13,7 +13,7 @@ fn told(heap: Global, text: &[u8]) -> Result<(u8, usize), AllocError> {
     let room = Expressions::reserve(heap)?;
     match read_condition(text, words, room) {
         Ok(_) => Ok((0, 0)),
-        Err(fault) => Ok((fault.cause.number(), fault.place)),
+        Err(fault) => Ok((u8::from(fault.cause), fault.place)),
     }
 }
 
@@ -26,10 +26,8 @@ fn stands(heap: Global, text: &[u8]) -> Result<bool, AllocError> {
         values: [1, 2, 3, 4, 5, 6],
         starts: [11, 12, 13, 14, 15, 16],
     };
-    match read_condition(text, words, room) {
-        Ok(good) => Ok(holds(&good.expressions, good.index, &moment)),
-        Err(_) => Ok(false),
-    }
+    let read = read_condition(text, words, room);
+    Ok(read.is_ok_and(|good| holds(&good.expressions, good.index, &moment)))
 }
 
 // A part, so often, and what comes behind.

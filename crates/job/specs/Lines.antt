@@ -1,5 +1,5 @@
 -- The lines of a report, byte by byte, and what writing one leaves in the caller's buffer. Assumes nothing.
-use Rattle.std.specs.Prelude.{◌≡◌, ℕ, ◌+◌, ◌<◌, ◌≤◌, List, [], ◌∷◌, ◌++◌, length, take, drop, ℤ, Ok, Err, codes, decimal, Result}
+use Rattle.std.specs.Prelude.{◌≡◌, ℕ, ◌<◌, ◌≤◌, List, [], ◌∷◌, ◌++◌, length, drop, ℤ, Ok, Err, codes, decimal, Result, flat_map}
 use Rattle.std.specs.Fmt.{signed_decimal}
 use Rattle.model.specs.Refusals.{reply, layer_number, cause_number}
 use Rattle.model.specs.declared.answer.Answer.{Answer}
@@ -21,8 +21,7 @@ spaced n = 32 ∷ decimal n
 
 -- each number with a space before it, and with `-` before a negative one
 abbrev pub listed : List ℤ → List ℕ
-listed [] = []
-listed (v ∷ vs) = (32 ∷ signed_decimal v) ++ listed vs
+listed vs = flat_map (λ v. 32 ∷ signed_decimal v) vs
 
 -- `refused`, layer, cause and place, and a line feed
 abbrev pub refused_line : Refusal → List ℕ
@@ -35,11 +34,6 @@ verdict_line a = word a.verdict ++ (spaced a.count ++ (spaced a.stored ++ (10 �
 -- a state's label and its six values, and a line feed
 abbrev pub state_line : Reading → List ℕ
 state_line s = decimal s.label ++ (listed s.values ++ (10 ∷ []))
-
--- the bytes of the piece from a place on, and no other byte changed
-pub record Put (piece old : List ℕ) (place : ℕ) (new : List ℕ) (next : ℕ) : Type 0 where
-  pub ends : next ≡ place + length piece
-  pub bytes : new ≡ take place old ++ (piece ++ drop (place + length piece) old)
 
 -- the line at the front of a buffer of at least 64 bytes, its length told, the bytes after it as they were; a
 -- shorter buffer is refused with LINE and stays as it was

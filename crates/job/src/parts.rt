@@ -6,8 +6,10 @@ use model::{Cause, Layer, Refusal};
 
 const LEAST: usize = 12;
 
-const MOST: usize = 16_384;
+// No job has more bytes.
+pub const MOST: usize = 16_384;
 
+// As lexing has it, told again here: job stands on no crate that knows of texts.
 const LONGEST_TEXT: usize = 4_096;
 
 // The two texts of a job, as parts of the file.
@@ -21,17 +23,7 @@ pub struct Texts<'a> {
 fn number(b0: u8, b1: u8, b2: u8, b3: u8) -> usize
     ensures { result ≡ b0 + 256 * (b1 + 256 * (b2 + 256 * b3)) }
 {
-    b0 as usize + 256 * (b1 as usize + 256 * (b2 as usize + 256 * b3 as usize))
-}
-
-fn refusal(layer: Layer, cause: Cause, place: usize) -> Refusal
-    ensures { result ≡ record { layer = layer; cause = cause; place = place } }
-{
-    Refusal {
-        layer,
-        cause,
-        place,
-    }
+    u32::from_le_bytes([b0, b1, b2, b3]) as usize
 }
 
 // The bytes before the trailer and the sheet's distance, if the file ends in a trailer of its own.
@@ -55,13 +47,9 @@ fn trailer(file: &[u8]) -> Option<(&[u8], usize)>
             b'J',
         ] => {
             let distance = number(*d0, *d1, *d2, *d3);
-            if number(*n0, *n1, *n2, *n3) != file.len()
-                || distance < LEAST
-                || distance > file.len()
-            {
-                return None;
-            }
-            Some((texts, distance))
+            let told = number(*n0, *n1, *n2, *n3);
+            let good = told == file.len() && (LEAST..=told).contains(&distance);
+            good.then_some((texts, distance))
         }
         _ => None,
     }
@@ -73,17 +61,17 @@ pub fn split(file: &[u8]) -> Result<Texts<'_>, Refusal>
 {
     let length = file.len();
     if length < LEAST || length > MOST {
-        return Err(refusal(Layer::Job, Cause::Size, length));
+        return Err(Refusal::new(Layer::Job, Cause::Size, length));
     }
-    let Some((texts, distance)) = trailer(file) else {
-        return Err(refusal(Layer::Job, Cause::Trailer, length - LEAST));
-    };
+    let mistrailed = Refusal::new(Layer::Job, Cause::Trailer, length - LEAST);
+    let (texts, distance) = trailer(file).ok_or(mistrailed)?;
     let start = length - distance;
     if start > LONGEST_TEXT {
-        return Err(refusal(Layer::Program, Cause::Length, LONGEST_TEXT));
+        return Err(Refusal::new(Layer::Program, Cause::Length, LONGEST_TEXT));
     }
     if distance - LEAST > LONGEST_TEXT {
-        return Err(refusal(Layer::Sheet, Cause::Length, start + LONGEST_TEXT));
+        let place = start + LONGEST_TEXT;
+        return Err(Refusal::new(Layer::Sheet, Cause::Length, place));
     }
     let (program, sheet) = texts.split_at(start);
     Ok(Texts { program, sheet })

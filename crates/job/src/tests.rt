@@ -19,8 +19,8 @@ fn told(bytes: &[u8]) -> (usize, usize, usize) {
     match split(bytes) {
         Ok(texts) => (0, texts.program.len(), texts.sheet.len()),
         Err(e) => (
-            e.layer.number() as usize,
-            e.cause.number() as usize,
+            u8::from(e.layer) as usize,
+            u8::from(e.cause) as usize,
             e.place,
         ),
     }
@@ -71,10 +71,8 @@ fn long_texts(rt: HostRuntime) -> Result<(), Fail> {
 // The trailer of 30 blanks, the sheet 10 of them, with one byte changed.
 fn damaged(heap: Global, place: usize) -> Result<(usize, usize, usize), AllocError> {
     let mut bytes = file(heap, 30, 22, 42)?;
-    for (i, byte) in bytes.iter_mut().enumerate() {
-        if i == place {
-            *byte ^= 1;
-        }
+    if let Some(byte) = bytes.get_mut(place) {
+        *byte ^= 1;
     }
     Ok(told(&bytes))
 }
@@ -89,30 +87,18 @@ fn damaged_trailers(rt: HostRuntime) -> Result<(), Fail> {
     Ok(())
 }
 
-// The line's length, or the place of a refusal.
-fn shown(line: &Result<usize, Refusal>) -> usize {
-    match line {
-        Ok(n) => *n,
-        Err(e) => e.place,
-    }
-}
-
 #[test]
 fn lines(rt: HostRuntime) {
     let mut out = [b'.'; 64];
-    let refusal = Refusal {
-        layer: Layer::Sheet,
-        cause: Cause::Deep,
-        place: 4_095,
-    };
-    assert_eq!(rt; shown(&refused_line(&mut out, &refusal)), 18);
+    let refusal = Refusal::new(Layer::Sheet, Cause::Deep, 4_095);
+    assert_eq!(rt; refused_line(&mut out, &refusal), Ok(18));
     assert!(rt; &out[0..19] == b"refused 3 12 4095\n.".as_slice());
     let answer = Answer {
         verdict: Verdict::Full,
         count: 0,
         stored: 1_000_000,
     };
-    assert_eq!(rt; shown(&verdict_line(&mut out, &answer)), 15);
+    assert_eq!(rt; verdict_line(&mut out, &answer), Ok(15));
     assert!(rt; &out[0..19] == b"full 0 1000000\n95\n.".as_slice());
 }
 
@@ -123,7 +109,7 @@ fn states(rt: HostRuntime) {
         label: 63,
         values: [0, -1, 1000, -1000, 7, -32768],
     };
-    assert_eq!(rt; shown(&state_line(&mut out, &state)), 28);
+    assert_eq!(rt; state_line(&mut out, &state), Ok(28));
     assert!(rt; &out[0..29] == b"63 0 -1 1000 -1000 7 -32768\n.".as_slice());
 }
 
@@ -137,11 +123,7 @@ fn short_buffers(rt: HostRuntime) {
     };
     assert_eq!(rt;
         verdict_line(&mut out, &answer),
-        Err(Refusal {
-            layer: Layer::Check,
-            cause: Cause::Line,
-            place: 63,
-        })
+        Err(Refusal::new(Layer::Check, Cause::Line, 63))
     );
     assert_eq!(rt; out[0], b'.');
 }

@@ -3,4 +3,4 @@
 
 mod sets;
 
-pub use sets::{has_label, label, label_set, more_labels, with_label};
+pub use sets::{has_label, label, label_of, label_set, more_labels, with_label};

@@ -1,41 +1,19 @@
 -- Runs of bytes that pass a test, and the words of what is left of a text. Assumes nothing.
-use Rattle.std.proofs.Common.{◌≡◌, ℕ, zero, suc, ◌+◌, ◌-◌, ◌*◌, ◌<◌, ◌≤◌, min, Bool, true, false, cond, ◌||◌, eqb, List, [], ◌∷◌, ◌++◌, length, get_or, take, drop, Decides, sym, refl, ap, ◌∙◌, subst, append_assoc, append-nil, arith, take_all, drop-cons, drop-drop}
-use Rattle.std.specs.Str.{bytes_eq}
-use Rattle.std.proofs.lemmas.Slice.Eq.{bytes_eq-Decides}
+use Rattle.std.proofs.Common.{◌≡◌, ℕ, zero, suc, ◌+◌, ◌-◌, ◌<◌, ◌≤◌, min, Bool, true, false, cond, ◌||◌, eqb, List, [], ◌∷◌, ◌++◌, length, get_or, take, drop, sym, refl, ap, ◌∙◌, append_assoc, arith, take_all, drop-cons, drop-drop}
+use Rattle.std.specs.List.{prefix_len}
+use Rattle.std.proofs.lemmas.Slice.Eq.{HasBytesAt, text_from_reads}
 use Rattle.text.specs.declared.word.Token.{Token}
 use Rattle.text.specs.declared.word.Token.TheVariants.{Number}
 use Rattle.text.specs.declared.word.Word.{Word}
 use Rattle.lexing.specs.Lexing.{run, decimal, is_letter, is_digit, separates, letters_token, mark_token, mark_size, token_at, size_at, words_from}
 
-pub same_answer : (a b : Bool) (P : Type 0) → Decides a P → Decides b P → a ≡ b
-same_answer true b P d e = sym (e.1 (d.0 refl))
-same_answer false true P d e = d.1 (e.0 refl)
-same_answer false false P d e = refl
-
-pub tested : (xs ys : List ℕ) (r : Bool) → Decides r (xs ≡ ys) → r ≡ bytes_eq xs ys
-tested xs ys r h = same_answer r (bytes_eq xs ys) (xs ≡ ys) h (bytes_eq-Decides xs ys)
-
--- one more byte of a run
-pub run_more : (p : ℕ → Bool) (bs : List ℕ) (n : ℕ) → n < length bs → p (get_or bs n 0) ≡ true → n + run p (drop n bs) ≡ run p bs → n + 1 + run p (drop (n + 1) bs) ≡ run p bs
-run_more p bs n h t e =
-    let cut = ap (run p) (drop-cons bs n 0 h) in
-    let one : run p (get_or bs n 0 ∷ drop (suc n) bs) ≡ suc (run p (drop (suc n) bs)) = ap (λ b. cond b (suc (run p (drop (suc n) bs))) 0) t in
-    let same : n + 1 ≡ suc n = omega arith in
-    subst (λ k. k + run p (drop k bs) ≡ run p bs) (sym same) (omega (arith, cut, one))
-
--- a run ends at a byte that fails, and at the end
-pub run_ends : (p : ℕ → Bool) (bs : List ℕ) (n : ℕ) → n < length bs → p (get_or bs n 0) ≡ false → run p (drop n bs) ≡ 0
-run_ends p bs n h t = ap (run p) (drop-cons bs n 0 h) ∙ ap (λ b. cond b (suc (run p (drop (suc n) bs))) 0) t
-
-pub run_none : (p : ℕ → Bool) (bs : List ℕ) (n : ℕ) → length bs ≤ n → run p (drop n bs) ≡ 0
-run_none p [] zero h = refl
-run_none p [] (suc n) h = refl
-run_none p (b ∷ bs) zero h = absurd (omega arith)
-run_none p (b ∷ bs) (suc n) h = run_none p bs n (omega arith)
-
--- a number that is cut off at 1,001 goes on so
-pub cut_off : (m n d : ℕ) → m ≡ min 1001 n → min (m * 10 + d) 1001 ≡ min 1001 (n * 10 + d)
-cut_off m n d e = grind arith
+pub run_is : (p : ℕ → Bool) (bs : List ℕ) → run p bs ≡ prefix_len p bs
+run_is p [] = refl
+run_is p (b ∷ bs) = go (p b) (run_is p bs)
+  where
+    go : (t : Bool) → run p bs ≡ prefix_len p bs → cond t (suc (run p bs)) 0 ≡ cond t (1 + prefix_len p bs) 0
+    go true e = omega arith
+    go false e = refl
 
 pub run_within : (p : ℕ → Bool) (bs : List ℕ) → run p bs ≤ length bs
 run_within p [] = omega arith
@@ -62,14 +40,6 @@ module _ (xs : List ℕ) (b : ℕ) (bs : List ℕ) (e : xs ≡ b ∷ bs) where
       let not_letter = first_is is_letter false f in
       let yes_digit = first_is is_digit true t in
       (ap Number (h ∙ ap (λ k. min 1001 (decimal (take k xs))) whole ∙ ap (λ v. min 1001 (decimal (take (run is_digit (b ∷ bs)) v))) e) ∙ sym (ap (λ c. cond c (letters_token (take (run is_letter (b ∷ bs)) (b ∷ bs))) (cond (is_digit b) (Number (min 1001 (decimal (take (run is_digit (b ∷ bs)) (b ∷ bs))))) (mark_token b bs))) not_letter ∙ ap (λ c. cond c (Number (min 1001 (decimal (take (run is_digit (b ∷ bs)) (b ∷ bs))))) (mark_token b bs)) yes_digit), l ∙ ap (run is_digit) e ∙ sym (ap (λ c. cond c (run is_letter (b ∷ bs)) (cond (is_digit b) (run is_digit (b ∷ bs)) (mark_size b bs))) not_letter ∙ ap (λ c. cond c (run is_digit (b ∷ bs)) (mark_size b bs)) yes_digit))
-
-  pub front_mark : (tok : Token) (n : ℕ) → tok ≡ mark_token (get_or xs 0 0) (take (length xs - 1) (drop 1 xs)) → n ≡ mark_size (get_or xs 0 0) (take (length xs - 1) (drop 1 xs)) → false ≡ is_letter (get_or xs 0 0) → false ≡ is_digit (get_or xs 0 0) → (tok ≡ token_at b bs) × (n ≡ size_at b bs)
-  front_mark tok n h l f t =
-      let not_letter = first_is is_letter false f in
-      let not_digit = first_is is_digit false t in
-      let behind : take (length xs - 1) (drop 1 xs) ≡ bs = ap (λ v. take (length v - 1) (drop 1 v)) e ∙ take_all (suc (length bs) - 1) bs (omega arith) in
-      let first : get_or xs 0 0 ≡ b = ap (λ v. get_or v 0 0) e in
-      (h ∙ ap (λ v. mark_token v (take (length xs - 1) (drop 1 xs))) first ∙ ap (mark_token b) behind ∙ sym (ap (λ c. cond c (letters_token (take (run is_letter (b ∷ bs)) (b ∷ bs))) (cond (is_digit b) (Number (min 1001 (decimal (take (run is_digit (b ∷ bs)) (b ∷ bs))))) (mark_token b bs))) not_letter ∙ ap (λ c. cond c (Number (min 1001 (decimal (take (run is_digit (b ∷ bs)) (b ∷ bs))))) (mark_token b bs)) not_digit), l ∙ ap (λ v. mark_size v (take (length xs - 1) (drop 1 xs))) first ∙ ap (mark_size b) behind ∙ sym (ap (λ c. cond c (run is_letter (b ∷ bs)) (cond (is_digit b) (run is_digit (b ∷ bs)) (mark_size b bs))) not_letter ∙ ap (λ c. cond c (run is_digit (b ∷ bs)) (mark_size b bs)) not_digit))
 
 -- a word has at least one byte, and lies within the text
 mark_bounds : (b : ℕ) (bs : List ℕ) → (1 ≤ mark_size b bs) × (mark_size b bs ≤ suc (length bs))
@@ -132,12 +102,6 @@ module _ (text : List ℕ) (p : ℕ) (h : p < length text) where
   pub part_first : (f : ℕ → Bool) (t : Bool) → t ≡ f (get_or (take (length text - p) (drop p text)) 0 0) → f (get_or text p 0) ≡ t
   part_first f t e = sym (e ∙ ap (λ v. f (get_or v 0 0)) part_is)
 
-drop_end : (xs : List ℕ) (n : ℕ) → length xs ≤ n → drop n xs ≡ []
-drop_end [] zero h = refl
-drop_end [] (suc n) h = refl
-drop_end (x ∷ xs) zero h = absurd (omega arith)
-drop_end (x ∷ xs) (suc n) h = drop_end xs n (omega arith)
-
--- nothing is left
-pub all_cut : (text : List ℕ) (p : ℕ) (ws all : List Word) → length text ≤ p → ws ++ words_from p 0 (drop p text) ≡ all → ws ≡ all
-all_cut text p ws all h e = sym (append-nil ws) ∙ sym (ap (λ v. ws ++ words_from p 0 v) (drop_end text p h)) ∙ e
+-- a run that has the bytes of a word is that word
+pub read_as : (f : List ℕ → Token) (s p : List ℕ) → length s ≡ length p → HasBytesAt s 0 p → f p ≡ f s
+read_as f s p l h = ap f (sym (text_from_reads s p l h))

@@ -1,12 +1,12 @@
 // Reserving the room for the words of a text, and cutting a text into it.
-ghost use Rattle.std.specs.Prelude.{◌≡◌, ◌<◌, ◌≤◌, true, false, List, [], ◌∷◌, ◌++◌, length, IfOk, vec_len};
-ghost use Rattle.lexing.specs.Lexing.{words_from};
-ghost use Rattle.lexing.specs.Cut.{CutSo, StepSo};
+ghost use Rattle.std.specs.Prelude.{◌≡◌, ◌<◌, ◌≤◌, [], length, IfOk, MatchResult, vec_len};
+ghost use Rattle.lexing.specs.Cut.{CutSo, TooLong, StepSo};
 
 use crate::scan::{front, separator};
 use crate::words::Words;
+use model::Cause;
 use std::alloc::{AllocError, Global};
-use text::Word;
+use text::{Fault, Word};
 
 // The most bytes of a text.
 pub const LONGEST: usize = 4096;
@@ -28,18 +28,22 @@ impl Words {
     }
 
     // Cuts a text into its words; a text over 4,096 bytes is not cut, and nothing changes.
-    pub fn cut(&mut self, text: &[u8]) -> bool
-        ensures { CutSo text.now self.old self.new result }
+    pub fn cut(&mut self, text: &[u8]) -> Result<(), Fault>
+        ensures { MatchResult result (λ _. CutSo text.now self.new) (λ f. TooLong text.now f × (self.new ≡ self.old)) }
     {
         if text.len() > LONGEST {
-            return false;
+            return Err(Fault {
+                cause: Cause::Length,
+                place: LONGEST,
+            });
         }
         self.list.clear();
+        // A step goes on by a whole word, so the places are no range to count through.
         let mut place = 0;
         while place < text.len() {
             place = self.step(text, place);
         }
-        true
+        Ok(())
     }
 
     // Takes the word that begins at a place, or passes over a separator, and tells the place behind it.

@@ -1,53 +1,37 @@
 // Cutting a text into words: the longest runs of letters or of digits, and the signs, longest first.
-ghost use Rattle.std.specs.Prelude.{◌≡◌, ℕ, ◌<◌, ◌≤◌, min, List, ◌∷◌, length};
-ghost use Rattle.std.specs.Str.{bytes_eq};
-ghost use Rattle.lexing.specs.Lexing.{is_letter, is_digit, separates, run, decimal, letter_token, letters_token, expression_word, statement_word, sheet_word, sign_token, equals_next, mark_token, mark_size, token_at, size_at};
+ghost use Rattle.std.specs.Prelude.{◌≡◌, ℕ, Bool, ◌<◌, ◌≤◌, min, List, ◌∷◌, length};
+ghost use Rattle.lexing.specs.Lexing.{is_letter, is_digit, separates, run, decimal, letter_token, letters_token, expression_word, sign_token, equals_next, mark_token, mark_size, token_at, size_at};
 
-use text::{Register, Token};
+use text::{LARGEST_NUMBER, Register, Token};
 
 // Every number above the largest that may stand is read as this one.
-const ABOVE: u16 = 1001;
+const ABOVE: u16 = LARGEST_NUMBER + 1;
 
 fn letter(b: u8) -> bool
     ensures { result ≡ is_letter b }
 {
-    b >= b'a' && b <= b'z' || b >= b'A' && b <= b'Z'
+    b.is_ascii_alphabetic()
 }
 
 fn digit(b: u8) -> bool
     ensures { result ≡ is_digit b }
 {
-    b >= b'0' && b <= b'9'
+    b.is_ascii_digit()
 }
 
 pub(crate) fn separator(b: u8) -> bool
     ensures { result ≡ separates b }
 {
-    b == b' ' || b == b'\n'
+    matches!(b, b' ' | b'\n')
 }
 
-// How many letters stand in front.
-fn letters(bytes: &[u8]) -> usize
-    ensures count { result ≡ run is_letter bytes.now }
+// How many bytes in front pass a test.
+fn run<F: Fn(u8) -> bool>(bytes: &[u8], passes: F) -> usize
+    requires { F.IsAlwaysCallable passes }
+    ensures count { (p : ℕ → Bool) → ((b : ℕ) (r : Bool) → F.post passes b r → r ≡ p b) → result ≡ run p bytes.now }
     ensures within { result ≤ length bytes.now }
 {
-    let mut n = 0;
-    while n < bytes.len() && letter(bytes[n]) {
-        n += 1;
-    }
-    n
-}
-
-// How many digits stand in front.
-fn digits(bytes: &[u8]) -> usize
-    ensures count { result ≡ run is_digit bytes.now }
-    ensures within { result ≤ length bytes.now }
-{
-    let mut n = 0;
-    while n < bytes.len() && digit(bytes[n]) {
-        n += 1;
-    }
-    n
+    bytes.iter().take_while(|b| passes(**b)).count()
 }
 
 // The value of a run of digits, however long.
@@ -61,6 +45,7 @@ fn value(run: &[u8]) -> u16
     n
 }
 
+// No From or TryFrom: it holds for a run of one letter alone.
 fn letter_token(b: u8) -> Token
     ensures { result ≡ letter_token b }
 {
@@ -81,74 +66,33 @@ fn letter_token(b: u8) -> Token
     }
 }
 
-// Whether a run of letters is a given word.
-fn is(run: &[u8], word: &[u8]) -> bool
-    ensures { result ≡ bytes_eq run.now word.now }
-{
-    run == word
-}
-
-fn sheet_word(run: &[u8]) -> Token
-    ensures { result ≡ sheet_word run.now }
-{
-    if is(run, b"empty") {
-        return Token::Empty;
-    }
-    if is(run, b"rest") {
-        return Token::Rest;
-    }
-    Token::Name
-}
-
-fn statement_word(run: &[u8]) -> Token
-    ensures { result ≡ statement_word run.now }
-{
-    if is(run, b"reg") {
-        return Token::Reg;
-    }
-    if is(run, b"sense") {
-        return Token::Sense;
-    }
-    if is(run, b"if") {
-        return Token::If;
-    }
-    if is(run, b"else") {
-        return Token::Else;
-    }
-    if is(run, b"while") {
-        return Token::While;
-    }
-    if is(run, b"break") {
-        return Token::Break;
-    }
-    sheet_word(run)
-}
-
-fn expression_word(run: &[u8]) -> Token
+// The words of expressions, of statements and of sheets; every other run of letters is a name.
+fn long_token(run: &[u8]) -> Token
     ensures { result ≡ expression_word run.now }
 {
-    if is(run, b"true") {
-        return Token::True;
+    match run {
+        b"true" => Token::True,
+        b"and" => Token::And,
+        b"or" => Token::Or,
+        b"nand" => Token::Nand,
+        b"reg" => Token::Reg,
+        b"sense" => Token::Sense,
+        b"if" => Token::If,
+        b"else" => Token::Else,
+        b"while" => Token::While,
+        b"break" => Token::Break,
+        b"empty" => Token::Empty,
+        b"rest" => Token::Rest,
+        _ => Token::Name,
     }
-    if is(run, b"and") {
-        return Token::And;
-    }
-    if is(run, b"or") {
-        return Token::Or;
-    }
-    if is(run, b"nand") {
-        return Token::Nand;
-    }
-    statement_word(run)
 }
 
 fn letters_token(run: &[u8]) -> Token
     ensures { result ≡ letters_token run.now }
 {
-    if run.len() == 1 {
-        letter_token(run[0])
-    } else {
-        expression_word(run)
+    match run {
+        [b] => letter_token(*b),
+        _ => long_token(run),
     }
 }
 
@@ -178,10 +122,7 @@ fn sign_token(b: u8) -> Token
 fn equals_next(bytes: &[u8]) -> bool
     ensures { result ≡ equals_next bytes.now }
 {
-    match bytes {
-        [b'=', ..] => true,
-        _ => false,
-    }
+    matches!(bytes, [b'=', ..])
 }
 
 // The word that begins with a byte that is no letter and no digit, and its length.
@@ -189,21 +130,13 @@ fn mark(b: u8, behind: &[u8]) -> (Token, usize)
     ensures token { result.0 ≡ mark_token b behind.now }
     ensures size { result.1 ≡ mark_size b behind.now }
 {
-    if b == b'<' {
-        return if equals_next(behind) {
-            (Token::AtMost, 2)
-        } else {
-            (Token::Less, 1)
-        };
+    match (b, equals_next(behind)) {
+        (b'<', true) => (Token::AtMost, 2),
+        (b'<', false) => (Token::Less, 1),
+        (b'=', true) => (Token::Equal, 2),
+        (b'=', false) => (Token::Set, 1),
+        _ => (sign_token(b), 1),
     }
-    if b == b'=' {
-        return if equals_next(behind) {
-            (Token::Equal, 2)
-        } else {
-            (Token::Set, 1)
-        };
-    }
-    (sign_token(b), 1)
 }
 
 // The word that the bytes begin with, and its length.
@@ -213,11 +146,11 @@ pub(crate) fn front(bytes: &[u8]) -> (Token, usize)
 {
     let b = bytes[0];
     if letter(b) {
-        let n = letters(bytes);
+        let n = run(bytes, letter);
         return (letters_token(&bytes[0..n]), n);
     }
     if digit(b) {
-        let n = digits(bytes);
+        let n = run(bytes, digit);
         return (Token::Number(value(&bytes[0..n])), n);
     }
     mark(b, &bytes[1..])

@@ -1,69 +1,28 @@
 -- What one turn over the registers keeps. Assumes nothing.
-use Rattle.std.proofs.Common.{◌≡◌, ℕ, zero, suc, ◌+◌, ◌-◌, ◌*◌, ◌/◌, ◌%◌, ◌^◌, ◌<◌, ◌≤◌, Bool, true, false, ◌&&◌, List, [], ◌∷◌, ◌++◌, length, get_or, take, drop, set, ℤ, pos, ◌+ℤ◌, ◌≤ℤ◌, Some, None, sym, refl, ap, ◌∙◌, subst, append_assoc, append-nil, mod-lt, mul_assoc, mul_comm, div-lt_iff_lt-mul, add-mul, mul-le-mul_left, one-mul, pow-suc, mul-one, mul-add, arith, length-drop, w16, to_z, of_z}
+use Rattle.std.proofs.Common.{◌≡◌, ℕ, zero, suc, ◌+◌, ◌*◌, ◌/◌, ◌%◌, ◌^◌, ◌<◌, ◌≤◌, List, [], ◌∷◌, map, fold, length, get_or, take, drop, ℤ, pos, ◌≤ℤ◌, Some, Option, sym, refl, ap, ◌∙◌, subst, mod-lt, mul_assoc, mul_comm, div-lt_iff_lt-mul, add-mul, mul-le-mul_left, one-mul, pow-suc, mul-one, mul-add, arith, w16, to_z, of_z}
 use native.Mathlib.Nat.{div-add-mod}
-use Rattle.std.proofs.lemmas.List.{drop_more, drop_all, take_all, take_more_set}
-use Rattle.std.proofs.lemmas.Bool.{and_left, lt-leb, le-leb, cond-true, cond-false, ne_eqb, eq-eqb}
+use Rattle.std.proofs.lemmas.List.{drop_more, drop_all, get_or_read}
 use Rattle.std.proofs.lemmas.Int.{ints}
+use Rattle.std.specs.Iterator.{Yields}
+use Rattle.std.specs.Iterator.Runs.{EachRunFrom, YieldsRun}
+use Rattle.std.proofs.lemmas.Iterator.{YieldsList}
+use Rattle.std.proofs.lemmas.Iterator.Consumers.{YieldsList-so_far}
 use Rattle.model.specs.Cells.{at}
 use Rattle.traces.specs.declared.range.Range.{Range}
 use Rattle.traces.specs.Tables.{above}
-use Rattle.traces.specs.Codes.{packed, unpacked, in_range, settings, start_codes}
-use Rattle.traces.proofs.Spans.{range_ordered, wide}
-use Rattle.traces.proofs.Packing.{Fits, packed_below}
+use Rattle.traces.specs.Codes.{packed, settings, start_codes}
+use Rattle.traces.proofs.Spans.{range_ordered}
+use Rattle.traces.proofs.Packing.{Fits}
 use Rattle.traces.proofs.Begins.{below_at, digits_room}
-use Rattle.machine.specs.Cells.{values_in}
 
 -- a value in range is the same in 16 bits
 pub back : (r : Range) (v : ℤ) → r.low ≤ℤ v → v ≤ℤ r.high → to_z w16 (of_z w16 v) ≡ v
 back r v g h = let o = range_ordered r in let a = o.floor in let b = o.ceiling in omega (arith, ints)
 
-pub back_digit : (r : Range) (d : ℕ) (v : ℤ) → d ≤ above r.low r.high → v ≡ r.low +ℤ pos d → to_z w16 (of_z w16 v) ≡ r.low +ℤ pos d
-back_digit r d v h e = let o = range_ordered r in let a = o.floor in let b = o.ceiling in let w = wide r in omega (arith, ints)
-
--- ---- unpacking
-true_and : (a b : Bool) → a ≡ true → (a && b) ≡ b
-true_and a b e = ap (λ x. x && b) e
-
-pub in_range_more : (rs : List Range) (i m : ℕ) (d : Range) (b : Bool) → i < length rs → b ≡ in_range (drop i rs) m
-    → m % 64 ≤ above (get_or rs i d).low (get_or rs i d).high → b ≡ in_range (drop (i + 1) rs) (m / 64)
-in_range_more rs i m d b h e l =
-    e ∙ ap (λ qs. in_range qs m) (drop_more rs i d h) ∙ true_and _ _ (le-leb _ _ l)
-
-pub in_range_stops : (rs : List Range) (i m : ℕ) (d : Range) (b : Bool) → i < length rs → b ≡ in_range (drop i rs) m
-    → above (get_or rs i d).low (get_or rs i d).high < m % 64 → b ≡ false
-in_range_stops rs i m d b h e l =
-    e ∙ ap (λ qs. in_range qs m) (drop_more rs i d h) ∙ and_left _ _ (lt-leb _ _ l)
-
-pub unpacked_more : (rs : List Range) (i m : ℕ) (d : Range) (us vs : List ℤ) (v : ℤ) → i < length rs → i < length vs → us ≡ take i vs ++ unpacked (drop i rs) m
-    → v ≡ (get_or rs i d).low +ℤ pos (m % 64) → us ≡ take (i + 1) (set vs i v) ++ unpacked (drop (i + 1) rs) (m / 64)
-unpacked_more rs i m d us vs v h k e f =
-    e ∙ ap (λ qs. take i vs ++ unpacked qs m) (drop_more rs i d h)
-    ∙ ap (λ z. take i vs ++ (z ∷ unpacked (drop (i + 1) rs) (m / 64))) (sym f)
-    ∙ sym (append_assoc (take i vs) (v ∷ []) (unpacked (drop (i + 1) rs) (m / 64)))
-    ∙ ap (λ z. z ++ unpacked (drop (i + 1) rs) (m / 64)) (sym (take_more_set vs i v k))
-
-pub none_since : (rs : List Range) (n : ℕ) → in_range rs n ≡ false → None ≡ values_in rs n
-none_since rs n e = sym (cond-false _ _ _ e)
-
-pub in_range_ends : (rs : List Range) (i m : ℕ) (b : Bool) → length rs ≤ i → b ≡ in_range (drop i rs) m → 0 < m → b ≡ false
-in_range_ends rs i m b h e l = e ∙ ap (λ qs. in_range qs m) (drop_all i rs h) ∙ ne_eqb m 0 (λ z. omega arith)
-
-pub some_since : (rs : List Range) (n i m : ℕ) (vs : List ℤ) → length rs ≤ i → length vs ≤ i → in_range rs n ≡ in_range (drop i rs) m
-    → unpacked rs n ≡ take i vs ++ unpacked (drop i rs) m → m ≤ 0 → Some vs ≡ values_in rs n
-some_since rs n i m vs h k e f z =
-    let t : in_range rs n ≡ true = e ∙ ap (λ qs. in_range qs m) (drop_all i rs h) ∙ eq-eqb m 0 (omega arith) in
-    let u : unpacked rs n ≡ vs = f ∙ ap (λ qs. take i vs ++ unpacked qs m) (drop_all i rs h) ∙ append-nil (take i vs) ∙ take_all i vs k in
-    sym (cond-true _ _ _ t ∙ ap Some u)
+pub back_first : (r : Range) → to_z w16 (of_z w16 r.from) ≡ r.from
+back_first r = let o = range_ordered r in back r r.from o.first (omega (arith, ints))
 
 -- ---- packing
-pub fits_drop : (rs : List Range) (vs : List ℤ) (i : ℕ) → Fits rs vs → Fits (drop i rs) (drop i vs)
-fits_drop [] [] zero f = tt
-fits_drop [] [] (suc i) f = tt
-fits_drop [] (v ∷ vs) i f = absurd f
-fits_drop (r ∷ rs) [] i f = absurd f
-fits_drop (r ∷ rs) (v ∷ vs) zero f = f
-fits_drop (r ∷ rs) (v ∷ vs) (suc i) f = fits_drop rs vs i f.2
-
 pub fits_at : (rs : List Range) (vs : List ℤ) (i : ℕ) (d : Range) → Fits rs vs → i < length rs → ((get_or rs i d).low ≤ℤ get_or vs i (pos 0)) × (get_or vs i (pos 0) ≤ℤ (get_or rs i d).high)
 fits_at [] [] i d f h = absurd (omega arith)
 fits_at [] (v ∷ vs) i d f h = absurd f
@@ -71,33 +30,32 @@ fits_at (r ∷ rs) [] i d f h = absurd f
 fits_at (r ∷ rs) (v ∷ vs) zero d f h = (f.0, f.1)
 fits_at (r ∷ rs) (v ∷ vs) (suc i) d f h = fits_at rs vs i d f.2 (omega arith)
 
-pub fits_length : (rs : List Range) (vs : List ℤ) → Fits rs vs → length vs ≡ length rs
-fits_length [] [] f = refl
-fits_length [] (v ∷ vs) f = absurd f
-fits_length (r ∷ rs) [] f = absurd f
-fits_length (r ∷ rs) (v ∷ vs) f = ap suc (fits_length rs vs f.2)
+-- the value at hand is in the range at hand
+pub fits_here : (rs : List Range) (vs : List ℤ) (i : ℕ) (r : Range) (v : ℤ) → Fits rs vs → i < length rs → i < length vs → r ≡ get_or rs i r → v ≡ get_or vs i v → (r.low ≤ℤ v) × (v ≤ℤ r.high)
+fits_here rs vs i r v f h k e g =
+    let w = fits_at rs vs i r f h in
+    let x : get_or vs i (pos 0) ≡ v = sym (get_or_read vs i v k g (pos 0)) in
+    let y : get_or rs i r ≡ r = sym e in
+    rw (y, x) at w
 
-pub packed_more : (rs : List Range) (vs : List ℤ) (j i : ℕ) (d : Range) (sum k : ℕ) → Fits rs vs → 0 < i → i ≤ length rs → j ≡ i - 1 → sum ≡ packed (drop i rs) (drop i vs)
-    → k ≡ above (get_or rs j d).low (get_or vs j (pos 0)) → sum * 64 + k ≡ packed (drop j rs) (drop j vs)
-packed_more rs vs j i d sum k f g h e s t =
-    let i' : i ≡ j + 1 = omega arith in
-    let l = fits_length rs vs f in
-    let p = drop_more rs j d (omega arith) in
-    let q = drop_more vs j (pos 0) (omega arith) in
-    let z : packed (drop i rs) (drop i vs) ≡ packed (drop (j + 1) rs) (drop (j + 1) vs) = ap (λ m. packed (drop m rs) (drop m vs)) i' in
-    let w : packed (drop j rs) (drop j vs) ≡ above (get_or rs j d).low (get_or vs j (pos 0)) + 64 * packed (drop (j + 1) rs) (drop (j + 1) vs) =
-    ap (λ qs. packed qs (drop j vs)) p ∙ ap (λ us. packed (get_or rs j d ∷ drop (j + 1) rs) us) q in
+sums : (s w k c : ℕ) → s + w * (k + 64 * c) ≡ s + k * w + w * 64 * c
+sums s w k c =
+    let x = mul-add w k (64 * c) in
+    let y = mul_comm w k in
+    let z = mul_assoc w 64 c in
     omega arith
+
+pub packed_more : (rs : List Range) (vs : List ℤ) (i : ℕ) (r : Range) (v : ℤ) (sum weight k all : ℕ) → i < length rs → i < length vs → r ≡ get_or rs i r → v ≡ get_or vs i v
+    → sum + weight * packed (drop i rs) (drop i vs) ≡ all → k ≡ above r.low v → sum + k * weight + weight * 64 * packed (drop (i + 1) rs) (drop (i + 1) vs) ≡ all
+packed_more rs vs i r v sum weight k all h l e g inv t =
+    let p : drop i rs ≡ r ∷ drop (i + 1) rs = drop_more rs i r h ∙ ap (λ q. q ∷ drop (i + 1) rs) (sym e) in
+    let q : drop i vs ≡ v ∷ drop (i + 1) vs = drop_more vs i v l ∙ ap (λ u. u ∷ drop (i + 1) vs) (sym g) in
+    let w : packed (drop i rs) (drop i vs) ≡ k + 64 * packed (drop (i + 1) rs) (drop (i + 1) vs) =
+    ap (λ qs. packed qs (drop i vs)) p ∙ ap (packed (r ∷ drop (i + 1) rs)) q ∙ ap (λ n. n + 64 * packed (drop (i + 1) rs) (drop (i + 1) vs)) (sym t) in
+    sym (sums sum weight k (packed (drop (i + 1) rs) (drop (i + 1) vs))) ∙ ap (λ n. sum + weight * n) (sym w) ∙ inv
 
 pow_six : (k : ℕ) → k ≤ 5 → 64 ^ k ≤ 64 ^ 5
 pow_six k h = native.Mathlib.Nat.pow-le-pow_right {n = 64} (lib.Dec.lit< tt) h
-
-pub packed_room : (rs : List Range) (vs : List ℤ) (i sum : ℕ) → Fits rs vs → 0 < i → length rs ≡ 6 → sum ≡ packed (drop i rs) (drop i vs) → sum < 2 ^ 30
-packed_room rs vs i sum f g h e =
-    let b = packed_below (drop i rs) (drop i vs) (fits_drop rs vs i f) in
-    let l = length-drop i rs in
-    let p = pow_six (length (drop i rs)) (omega arith) in
-    omega arith
 
 -- ---- counting the settings
 pub settings_pos : (rs : List Range) → 0 < settings rs
@@ -105,19 +63,42 @@ settings_pos [] = omega arith
 settings_pos (r ∷ rs) = let h = settings_pos rs in let e = add-mul 1 (above r.from r.to) (settings rs) in let f = one-mul (settings rs) in let s : suc (above r.from r.to) ≡ 1 + above r.from r.to = omega arith in
     let g : suc (above r.from r.to) * settings rs ≡ settings rs + above r.from r.to * settings rs = ap (λ n. n * settings rs) s ∙ e ∙ ap (λ n. n + above r.from r.to * settings rs) f in omega arith
 
-pub settings_more : (rs : List Range) (i : ℕ) (d : Range) (total n all : ℕ) → i < length rs → total * settings (drop i rs) ≡ all → n ≡ suc (above (get_or rs i d).from (get_or rs i d).to)
-    → total * n * settings (drop (i + 1) rs) ≡ all
-settings_more rs i d total n all h e f =
-    mul_assoc total n (settings (drop (i + 1) rs)) ∙ ap (λ m. total * (m * settings (drop (i + 1) rs))) f ∙ sym (ap (λ qs. total * settings qs) (drop_more rs i d h)) ∙ e
+-- the number of a register's starts
+abbrev pub choices : Range → ℕ
+choices r = suc (above r.from r.to)
 
-pub settings_room : (a b all : ℕ) → a * b ≡ all → 0 < b → a ≤ all
-settings_room a b all e h =
-    let m = mul-le-mul_left a h in
-    let o = mul-one a in
+choices_from : (rs : List Range) (a : ℕ) → fold (λ m n. m * n) a (map choices rs) ≡ a * settings rs
+choices_from [] a = sym (mul-one a)
+choices_from (r ∷ rs) a = choices_from rs (a * choices r) ∙ mul_assoc a (choices r) (settings rs)
+
+pub choices_all : (rs : List Range) → fold (λ m n. m * n) 1 (map choices rs) ≡ settings rs
+choices_all rs = choices_from rs 1 ∙ one-mul (settings rs)
+
+choices_front : (rs : List Range) (n a : ℕ) → fold (λ k m. k * m) a (take n (map choices rs)) ≤ a * settings rs
+choices_front [] zero a = let e = mul-one a in omega arith
+choices_front [] (suc n) a = let e = mul-one a in omega arith
+choices_front (r ∷ rs) zero a =
+    let m = mul-le-mul_left a (settings_pos (r ∷ rs)) in
+    let e = mul-one a in
+    omega arith
+choices_front (r ∷ rs) (suc n) a =
+    let h = choices_front rs n (a * choices r) in
+    let e = mul_assoc a (choices r) (settings rs) in
     omega arith
 
-pub settings_all : (rs : List Range) (i total all : ℕ) → length rs ≤ i → total * settings (drop i rs) ≡ all → total ≡ all
-settings_all rs i total all h e = sym (mul-one total) ∙ sym (ap (λ qs. total * settings qs) (drop_all i rs h)) ∙ e
+map-itself : (xs : List ℕ) → map (λ x. x) xs ≡ xs
+map-itself [] = refl
+map-itself (x ∷ xs) = ap (λ l. x ∷ l) (map-itself xs)
+
+-- no product on the way is above the whole
+pub choices_fit : {S : Type 0} {steps : S → Option ℕ → S → Type 0} (s : S) (rs : List Range) → YieldsList steps (λ x. x) s (map choices rs) → settings rs ≤ 65536 → EachRunFrom steps s (λ p. fold (λ k m. k * m) 1 p.items < 2 ^ 64)
+unfolding YieldsRun
+choices_fit {steps = steps} s rs road few = λ p _ at.
+    let e : p.items ≡ take (length p.items) (map choices rs) = sym (map-itself p.items) ∙ YieldsList-so_far road p.items p.gave.0.0 (subst (λ u. Yields steps u p.items p.gave.0.0) at p.gave.0.1) in
+    let f = ap (fold (λ k m. k * m) 1) e in
+    let h = choices_front rs (length p.items) 1 in
+    let o = one-mul (settings rs) in
+    omega arith
 
 -- ---- the code of a start
 pub rest_below : (rs : List Range) (i : ℕ) (d : Range) (rest n : ℕ) → i < length rs → rest < settings (drop i rs) → n ≡ suc (above (get_or rs i d).from (get_or rs i d).to)
@@ -141,15 +122,7 @@ start_more rs i d rest n first sum weight place h f g inv c a =
     let b = below_at r (start_codes (drop (i + 1) rs)) n (rest / n) rest k c f (sym e) m a in
     let b' : at (start_codes (drop i rs)) rest ≡ Some (above r.low r.from + k + 64 * c) = ap (λ qs. at (start_codes qs) rest) (drop_more rs i d h) ∙ b in
     let z = inv (above r.low r.from + k + 64 * c) b' in
-    z ∙ ap Some (sums weight first (above r.low r.from) k c g)
-  where
-    sums : (w f f' k c : ℕ) → f ≡ f' → sum + w * (f' + k + 64 * c) ≡ sum + (f + k) * w + w * 64 * c
-    sums w f f' k c e =
-        let x = mul-add w (f' + k) (64 * c) in
-        let y = mul_comm w (f' + k) in
-        let z = mul_assoc w 64 c in
-        let u : (f + k) * w ≡ (f' + k) * w = ap (λ q. (q + k) * w) e in
-        omega arith
+    z ∙ ap (λ n. Some (sum + weight * (n + k + 64 * c))) (sym g) ∙ ap Some (sums sum weight (first + k) c)
 
 -- a digit is at most 63
 pub start_digit : (r : Range) (rest n : ℕ) → n ≡ suc (above r.from r.to) → above r.low r.from + rest % n ≤ 63

@@ -1,14 +1,16 @@
 -- The cell of a program that has been read, and the parts that answer for it. Assumes nothing.
-use Rattle.std.specs.Prelude.{ℕ, Bool, cond, List, length, ℤ, Some, None, vec_items, Option}
+use Rattle.std.specs.Prelude.{ℕ, suc, Bool, cond, List, length, ℤ, Some, None, vec_items, Option}
 use Rattle.model.specs.Cells.{CellMeaning, at}
 use Rattle.traces.specs.declared.range.Range.{Range}
 use Rattle.traces.specs.Traces.{State, range_at}
-use Rattle.traces.specs.Tables.{Instruction, next_states, each, span}
+use Rattle.traces.specs.Tables.{Instruction, above, next_states, each, span}
 use Rattle.traces.specs.Codes.{unpacked, in_range, state_of, is_state}
 use Rattle.machine.specs.declared.program.Program.{Program}
 use Rattle.machine.specs.Trees.{ariths_of, tests_of}
 use Rattle.machine.specs.Views.{view, views, statement_stands, arith_at, test_at, arith_stands, test_stands}
 use Rattle.machine.specs.declared.statement.Statement.{Statement}
+use Rattle.machine.specs.declared.statement.Statement.TheVariants.{Set, Sense, Go, Branch}
+use Rattle.text.specs.Words.{register_index}
 use Rattle.text.specs.Expressions.{Arith, Test}
 use Rattle.machine.specs.Meanings.{meaning}
 
@@ -55,3 +57,10 @@ test_in_stands p i = test_stands (ariths_of p.expressions) (tests_of p.expressio
 -- the states after a sense
 abbrev pub sensed : Program → ℕ → ℕ → State → List State
 sensed p x n σ = each n σ.values x (span (range_at p.ranges x))
+
+-- how many next states a statement leads to
+abbrev pub ways_of : List Range → Statement → ℕ
+ways_of rs (Set x i n) = 1
+ways_of rs (Sense x n) = suc (above (range_at rs (register_index x)).low (range_at rs (register_index x)).high)
+ways_of rs (Go n) = 1
+ways_of rs (Branch i y n) = 1

@@ -4,7 +4,7 @@ ghost use Rattle.model.specs.Cells.{at, Observed};
 ghost use Rattle.traces.specs.Codes.{code as coded};
 ghost use Rattle.traces.specs.Tables.{next_states};
 ghost use Rattle.traces.proofs.Packing.{Fits};
-ghost use Rattle.machine.specs.Cells.{cell_of, instructions, state_in, outcome_in};
+ghost use Rattle.machine.specs.Cells.{cell_of, instructions, state_in, outcome_in, ways_of};
 
 use crate::codes::{count, pack, start, unpack};
 use crate::program::Program;
@@ -12,7 +12,7 @@ use crate::statement::Statement;
 use model::{Cell, Reading};
 
 // What a label counts in a code: 2^36.
-const SPAN: u64 = 68_719_476_736;
+const SPAN: u64 = 1 << 36;
 
 impl Program {
     // The state that a code stands for.
@@ -20,7 +20,7 @@ impl Program {
         ensures { result ≡ state_in self.now code }
     {
         let label = code / SPAN;
-        if label > self.statements.as_slice().len() as u64 {
+        if label > self.statements.len() as u64 {
             return None;
         }
         let values = unpack(&self.ranges, code % SPAN)?;
@@ -35,32 +35,32 @@ impl Program {
         requires { Fits self.now.ranges state.now.values }
         ensures { result ≡ coded self.now.ranges state.now }
     {
-        state.label as u64 * SPAN + pack(&self.ranges, &state.values)
+        u64::from(state.label) * SPAN + pack(&self.ranges, &state.values)
     }
 
     // The next state of a state at a place.
     fn outcome(&self, state: &Reading, place: usize) -> Option<Reading>
         ensures { result ≡ outcome_in self.now state.now place }
     {
-        let statements = self.statements.as_slice();
-        let label = state.label as usize;
-        if label >= statements.len() {
-            return None;
-        }
-        self.perform(statements[label], state, place)
+        let statement = self.statements.get(usize::from(state.label))?;
+        self.perform(*statement, state, place)
     }
 
     // How many next states a state has.
     fn outcome_count(&self, state: &Reading) -> usize
         ensures { result ≡ length (next_states self.now.ranges (instructions self.now) state.now) }
     {
-        let statements = self.statements.as_slice();
-        let label = state.label as usize;
-        if label >= statements.len() {
-            return 0;
-        }
-        match statements[label] {
-            Statement::Sense { register, .. } => self.ranges[register.index()].width() as usize + 1,
+        self.statements
+            .get(usize::from(state.label))
+            .map_or(0, |statement| self.ways(*statement))
+    }
+
+    // How many next states a statement leads to.
+    fn ways(&self, statement: Statement) -> usize
+        ensures { result ≡ ways_of self.now.ranges statement }
+    {
+        match statement {
+            Statement::Sense { register, .. } => self.range(register).width() as usize + 1,
             Statement::Set { .. } | Statement::Go { .. } | Statement::Branch { .. } => 1,
         }
     }
@@ -75,17 +75,12 @@ impl Cell for Program {
     }
 
     fn start_at(&self, place: usize) -> Option<u64> {
-        if place >= count(&self.ranges) {
-            return None;
-        }
-        Some(start(&self.ranges, place))
+        (place < count(&self.ranges)).then(|| start(&self.ranges, place))
     }
 
     fn next_count(&self, code: u64) -> usize {
-        match self.state(code) {
-            Some(state) => self.outcome_count(&state),
-            None => 0,
-        }
+        self.state(code)
+            .map_or(0, |state| self.outcome_count(&state))
     }
 
     fn next_at(&self, code: u64, place: usize) -> Option<u64> {
@@ -95,12 +90,10 @@ impl Cell for Program {
     }
 
     fn observe(&self, code: u64, reading: &mut Reading) -> bool {
-        match self.state(code) {
-            Some(state) => {
-                *reading = state;
-                true
-            }
-            None => false,
-        }
+        let Some(state) = self.state(code) else {
+            return false;
+        };
+        *reading = state;
+        true
     }
 }

@@ -1,5 +1,5 @@
 // Codes: packing and unpacking values, and the code of a start.
-ghost use Rattle.std.specs.Prelude.{◌≡◌, suc, ◌<◌, ◌≤◌, length, pos, ◌+ℤ◌, ◌≤ℤ◌, Some};
+ghost use Rattle.std.specs.Prelude.{◌≡◌, ◌<◌, ◌≤◌, length, pos, ◌+ℤ◌, ◌≤ℤ◌, Some};
 ghost use Rattle.traces.specs.Tables.{above};
 ghost use Rattle.model.specs.Cells.{at};
 ghost use Rattle.traces.specs.Codes.{packed, settings, start_codes};
@@ -24,39 +24,22 @@ pub(crate) fn value(range: &Range, digit: u64) -> i16
     range.low + digit as i16
 }
 
-// The number of a register's starts.
-fn starts(range: &Range) -> usize
-    ensures { result ≡ suc (above range.now.from range.now.to) }
-{
-    (range.to - range.from) as usize + 1
-}
-
-// How far a register's first start is above the low end.
-fn first(range: &Range) -> usize
-    ensures { result ≡ above range.now.low range.now.from }
-{
-    (range.from - range.low) as usize
-}
-
 // The values that a sum of digits stands for, none where a digit is out of its range.
 pub(crate) fn unpack(ranges: &[Range; 6], sum: u64) -> Option<[i16; 6]>
     ensures { result ≡ values_in ranges.now sum }
 {
     let mut rest = sum;
     let mut values = [0; 6];
-    for i in 0..6 {
-        let range = ranges[i];
+    for (place, range) in ranges.iter().enumerate() {
         let digit = rest % 64;
         if digit > range.width() {
             return None;
         }
-        values[i] = value(&range, digit);
+        // Set by its place: after an adapter of iter_mut the library tells nothing of the values.
+        values[place] = value(range, digit);
         rest /= 64;
     }
-    if rest > 0 {
-        return None;
-    }
-    Some(values)
+    (rest == 0).then_some(values)
 }
 
 // The sum of digits of values in range.
@@ -65,8 +48,10 @@ pub(crate) fn pack(ranges: &[Range; 6], values: &[i16; 6]) -> u64
     ensures { result ≡ packed ranges.now values.now }
 {
     let mut sum = 0;
-    for i in (0..6).rev() {
-        sum = sum * 64 + digit(&ranges[i], values[i]);
+    let mut weight = 1;
+    for (range, value) in ranges.iter().zip(values) {
+        sum += digit(range, *value) * weight;
+        weight *= 64;
     }
     sum
 }
@@ -76,14 +61,11 @@ pub(crate) fn count(ranges: &[Range; 6]) -> usize
     requires { settings ranges.now ≤ 65536 }
     ensures { result ≡ settings ranges.now }
 {
-    let mut total = 1;
-    for range in ranges {
-        total *= starts(range);
-    }
-    total
+    ranges.iter().map(Range::starts).product()
 }
 
 // The code of the start at a place: the first register changes fastest.
+// It sums its digits as it finds them: by way of the values, for pack to sum, it would be a loop more.
 pub(crate) fn start(ranges: &[Range; 6], place: usize) -> u64
     requires { place < settings ranges.now }
     ensures { at (start_codes ranges.now) place ≡ Some result }
@@ -92,9 +74,9 @@ pub(crate) fn start(ranges: &[Range; 6], place: usize) -> u64
     let mut sum = 0;
     let mut weight = 1;
     for range in ranges {
-        let count = starts(range);
-        let digit = first(range) + rest % count;
-        sum += digit as u64 * weight;
+        let count = range.starts();
+        let digit = digit(range, range.from) + (rest % count) as u64;
+        sum += digit * weight;
         weight *= 64;
         rest /= count;
     }

@@ -1,9 +1,9 @@
 // What a statement does to a state.
-ghost use Rattle.std.specs.Prelude.{◌≡◌, true, [], ◌∷◌, if◌then◌else◌};
+ghost use Rattle.std.specs.Prelude.{◌≡◌, true, [], ◌∷◌, if◌then◌else◌, slice_set};
 ghost use Rattle.model.specs.Cells.{at};
 ghost use Rattle.text.specs.Words.{register_index};
 ghost use Rattle.text.specs.Expressions.{value as means, holds as true_of};
-ghost use Rattle.traces.specs.Traces.{◌▹◌, seen, stored};
+ghost use Rattle.traces.specs.Traces.{◌▹◌, range_at, seen, stored};
 ghost use Rattle.traces.specs.Tables.{outcomes};
 ghost use Rattle.machine.specs.Cells.{viewed, stands_in, tree_in, test_in, arith_in_stands, test_in_stands, sensed};
 
@@ -12,6 +12,7 @@ use crate::program::Program;
 use crate::statement::Statement;
 use model::{Moment, Reading};
 use text::Register;
+use traces::Range;
 use values::{holds, value as evaluate};
 
 impl Program {
@@ -43,34 +44,33 @@ impl Program {
         }
     }
 
+    // The range of a register.
+    pub(crate) fn range(&self, register: Register) -> Range
+        ensures { result ≡ range_at self.now.ranges (register_index register) }
+    {
+        self.ranges[register.index()]
+    }
+
     // The state after a set.
     fn set(&self, register: Register, value: usize, next: u8, state: &Reading) -> Reading
         requires { arith_in_stands self.now value ≡ true }
         ensures { result ≡ next ▹ stored self.now.ranges state.now.values (register_index register) (means (seen state.now.values) (tree_in self.now value)) }
     {
         let result = evaluate(&self.expressions, value, &moment(state));
-        let mut values = state.values;
-        values[register.index()] = self.ranges[register.index()].keep(result);
-        Reading {
-            label: next,
-            values,
-        }
+        changed(state, register, self.range(register).keep(result), next)
     }
 
     // The state after a sense at a place: the range's value there.
     fn sense(&self, register: Register, next: u8, state: &Reading, place: usize) -> Option<Reading>
         ensures { result ≡ at (sensed self.now (register_index register) next state.now) place }
     {
-        let range = self.ranges[register.index()];
-        if place as u64 > range.width() {
-            return None;
-        }
-        let mut values = state.values;
-        values[register.index()] = value(&range, place as u64);
-        Some(Reading {
-            label: next,
-            values,
-        })
+        let range = self.range(register);
+        (place as u64 <= range.width()).then(|| changed(
+            state,
+            register,
+            value(&range, place as u64),
+            next,
+        ))
     }
 
     // The state after a test.
@@ -78,19 +78,24 @@ impl Program {
         requires { test_in_stands self.now test ≡ true }
         ensures { result ≡ (if true_of (seen state.now.values) (test_in self.now test) then yes else no) ▹ state.now.values }
     {
-        let label = choose(holds(&self.expressions, test, &moment(state)), yes, no);
+        let holds = holds(&self.expressions, test, &moment(state));
         Reading {
-            label,
+            label: if holds { yes } else { no },
             values: state.values,
         }
     }
 }
 
-// The label for a test's holding, or the one for its failing.
-fn choose(holds: bool, yes: u8, no: u8) -> u8
-    ensures { result ≡ (if holds then yes else no) }
+// The state at the next label, with another value in a register.
+fn changed(state: &Reading, register: Register, value: i16, next: u8) -> Reading
+    ensures { result ≡ next ▹ slice_set state.now.values (register_index register) value }
 {
-    if holds { yes } else { no }
+    let mut values = state.values;
+    values[register.index()] = value;
+    Reading {
+        label: next,
+        values,
+    }
 }
 
 // What an expression of a program sees in a state.
@@ -108,8 +113,5 @@ fn moment(state: &Reading) -> Moment
 fn only(state: Reading, place: usize) -> Option<Reading>
     ensures { result ≡ at (state ∷ []) place }
 {
-    if place > 0 {
-        return None;
-    }
-    Some(state)
+    (place == 0).then_some(state)
 }

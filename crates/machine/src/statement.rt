@@ -1,7 +1,7 @@
 // What stands at a label: one statement, with the labels that it goes on to.
 use text::Register;
 
-// Expressions are named by their places among the program's expressions.
+// Expressions are named by their places among the program's: room for them is reserved before a text is read.
 #[derive(Clone, Copy)]
 pub enum Statement {
     // `a = A;`

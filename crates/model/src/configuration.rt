@@ -1,7 +1,7 @@
 // What a check stores of a permitted run: where it began, where it is, and the watch's state there.
 ghost use Rattle.model.specs.Keys.{configuration_key};
 
-use crate::key::Key;
+use crate::key::{Key, MULTIPLIER};
 
 #[derive(Clone, Copy)]
 pub struct Configuration<S> {
@@ -14,13 +14,7 @@ impl<S: Key> Key for Configuration<S> {
     ghost kind = { configuration_key S.Key.kind };
 
     fn same(&self, other: &Configuration<S>) -> bool {
-        if self.first != other.first {
-            return false;
-        }
-        if self.last != other.last {
-            return false;
-        }
-        self.state.same(&other.state)
+        self.first == other.first && self.last == other.last && self.state.same(&other.state)
     }
 
     fn digest(&self) -> u64 {
@@ -28,6 +22,3 @@ impl<S: Key> Key for Configuration<S> {
         spread.wrapping_mul(MULTIPLIER) ^ self.state.digest()
     }
 }
-
-// An odd number with no pattern in its bits: multiplying by it carries every bit of a code upwards.
-const MULTIPLIER: u64 = 0x9e37_79b9_7f4a_7c15;

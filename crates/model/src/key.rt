@@ -5,7 +5,8 @@ ghost use Rattle.model.specs.Keys.{KeyMeaning, code_key};
 pub trait Key: Copy {
     ghost kind: { KeyMeaning Self };
 
-    // Whether the two are the same key, exactly.
+    // Whether the two are the same key, exactly. Not `==`: its meaning comes with the laws of keys, and who writes a watch
+    // owes them here and nowhere else.
     fn same(&self, other: &Self) -> bool
         ensures { result ≡ kind.alike self.now other.now };
 
@@ -26,3 +27,6 @@ impl Key for u64 {
         *self
     }
 }
+
+// An odd number with no pattern in its bits: multiplying by it carries every bit of a key upwards.
+pub const MULTIPLIER: u64 = 0x9e37_79b9_7f4a_7c15;

@@ -10,9 +10,9 @@ mod refusal;
 mod watch;
 
 pub use answer::{Answer, Verdict};
-pub use cell::{Cell, reading};
+pub use cell::{Cell, read, reading};
 pub use configuration::Configuration;
-pub use key::Key;
+pub use key::{Key, MULTIPLIER};
 pub use moment::{Moment, Reading};
 pub use refusal::{Cause, Layer, Refusal};
 pub use watch::Watch;

@@ -43,20 +43,32 @@ pub struct Refusal {
     pub place: usize,
 }
 
-impl Layer {
-    // The number that a report prints for it.
-    pub fn number(self) -> u8
-        ensures { result ≡ layer_number self }
+impl Refusal {
+    pub fn new(layer: Layer, cause: Cause, place: usize) -> Refusal
+        ensures { result ≡ record { layer = layer; cause = cause; place = place } }
     {
-        self as u8
+        Refusal {
+            layer,
+            cause,
+            place,
+        }
     }
 }
 
-impl Cause {
-    // The number that a report prints for it.
-    pub fn number(self) -> u8
-        ensures { result ≡ cause_number self }
-    {
-        self as u8
+// The number that a report prints for a layer.
+impl From<Layer> for u8 {
+    ghost from_gives = { λ layer number. number ≡ layer_number layer };
+
+    fn from(layer: Layer) -> u8 {
+        layer as u8
+    }
+}
+
+// The number that a report prints for a cause.
+impl From<Cause> for u8 {
+    ghost from_gives = { λ cause number. number ≡ cause_number cause };
+
+    fn from(cause: Cause) -> u8 {
+        cause as u8
     }
 }

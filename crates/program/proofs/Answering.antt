@@ -1,5 +1,5 @@
 -- What is answered to a text is what its words deserve. Assumes nothing.
-use Rattle.std.proofs.Common.{◌≡◌, ℕ, ◌≤◌, List, length, ap, ◌∙◌, subst}
+use Rattle.std.proofs.Common.{◌≡◌, ℕ, ◌≤◌, List, length, inl, ap, ◌∙◌, subst}
 use Rattle.grammar.specs.Answers.{Answer, good, fault, SameTexts}
 use Rattle.grammar.proofs.Meaning.{reading_stands}
 use Rattle.model.specs.Refusals.{cause_number}
@@ -24,7 +24,8 @@ use Rattle.program.specs.declared.board.Board.{Board}
 use Rattle.program.specs.declared.header.Header.{Header}
 use Rattle.program.specs.Headers.{HeaderStopped}
 use Rattle.program.specs.Wholes.{WholeRead, Assembled}
-use Rattle.program.specs.Answered.{Fair, Only, Faultless, Faulty}
+use Rattle.lexing.specs.Cut.{TooLong as Cut}
+use Rattle.program.specs.Answered.{Fair, Only, Faultless, Faulty, Refused}
 
 same_programs : SameTexts table program_start IsProgram
 same_programs ws = (program_reads ws, reads_program ws)
@@ -60,3 +61,6 @@ module _ (bs : List ℕ) (short : length bs ≤ 4096) (ws : List Word) (cut : ws
     deserved = subst (λ (u : List Word). Only u (fault f.cause s.words)) cut (deserved ws (fault f.cause s.words) s.stops);
     is = ap (λ (n : ℕ). (2, cause_number f.cause, n)) s.place_is;
   }
+
+pub too_long : (bs : List ℕ) (f : Fault) → Cut bs f → Refused bs (record { layer = ProgramLayer; cause = f.cause; place = f.place })
+too_long bs f l = inl (l.long, ap (λ (c : Cause). (2, cause_number c, f.place)) l.cause_is ∙ ap (λ (n : ℕ). (2, 3, n)) l.place_is)

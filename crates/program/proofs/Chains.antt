@@ -1,5 +1,5 @@
 -- How the table reads statements, word by word: what each reader's contract says of the words. Assumes nothing.
-use Rattle.std.proofs.Common.{◌≡◌, ℕ, suc, ◌-◌, ◌<◌, ◌≤◌, Bool, true, false, cond, not, List, [], ◌∷◌, ◌++◌, sym, refl, ap, ◌∙◌, subst, inl, inr, append_assoc, append-nil, arith, lit≤, le-ltb, lt-ltb}
+use Rattle.std.proofs.Common.{◌≡◌, ℕ, suc, ◌<◌, ◌≤◌, Bool, true, false, cond, not, List, [], ◌∷◌, ◌++◌, sym, refl, ap, ◌∙◌, subst, inl, inr, append_assoc, append-nil, arith, lit≤, le-ltb, lt-ltb}
 use Rattle.grammar.specs.Grammars.{Step, stuck, takes, find, Quiet}
 use Rattle.grammar.specs.Answers.{next, feed, Charge, fine, charged, fault, stepping, reading}
 use Rattle.grammar.proofs.Trees.{find_later}
@@ -37,15 +37,19 @@ statement_deep k m p e h d =
 abbrev Found : Token → Role → List Item → Type 0
 Found t r js = (q : ℕ) → find (rules_of statement) (record { token = t; place = q }) ≡ takes r js
 
-pub letter_found : (t : Token) (r : Register) → Letter t r → Found t set_register (becomes ∷ operand ∷ more ∷ semicolon ∷ [])
+letter_found : (t : Token) (r : Register) → Letter t r → Found t set_register (becomes ∷ operand ∷ more ∷ semicolon ∷ [])
 letter_found t r (inl e) q = ap (λ u. find (rules_of statement) (record { token = u; place = q })) e
 letter_found t r (inr e) q = ap (λ u. find (rules_of statement) (record { token = u; place = q })) e
 
-pub letter_sensed : (t : Token) (r : Register) → Letter t r → (q : ℕ) → find (rules_of sensed) (record { token = t; place = q }) ≡ takes sensed_register []
+letter_sensed : (t : Token) (r : Register) → Letter t r → (q : ℕ) → find (rules_of sensed) (record { token = t; place = q }) ≡ takes sensed_register []
 letter_sensed t r (inl e) q = ap (λ u. find (rules_of sensed) (record { token = u; place = q })) e
 letter_sensed t r (inr e) q = ap (λ u. find (rules_of sensed) (record { token = u; place = q })) e
 
-module _ (n p : ℕ) (s : Scope) (left : ℕ) (inside : Bool) where
+-- what is owed behind the first word of an if or while has one more open
+opened : (c : Item) → opens c ≡ 1 → (k : List Item) → open_in (guard ∷ statement ∷ c ∷ k) ≡ suc (open_in k)
+opened c o k = let y = o in omega arith
+
+module _ {n p : ℕ} {s : Scope} {left : ℕ} {inside : Bool} where
   room : (m : Memo) (k : List Item) → Place n p s left inside m k → open_in k ≤ 16
   room m k x = let h = x.nested in omega arith
 
@@ -166,58 +170,55 @@ module _ (n p : ℕ) (s : Scope) (left : ℕ) (inside : Bool) where
 
     -- ---- if ( B ) S, and while ( B ) S
     module _ (t : Token) (e : w.token ≡ t) (c : Item) (f : Found t labelled (guard ∷ statement ∷ c ∷ [])) (o : opens c ≡ 1) where
-      opened : (k : List Item) → open_in (guard ∷ statement ∷ c ∷ k) ≡ suc (open_in k)
-      opened k = let y = o in omega arith
-
       pub part_many : 63 ≤ p → Stops n p s left inside (statement ∷ []) (w ∷ ws) Many (w ∷ ws)
       part_many h = labelled_many t (guard ∷ statement ∷ c ∷ []) e f h
 
       pub part_deep : p < 63 → left ≡ 0 → Stops n p s left inside (statement ∷ []) (w ∷ ws) Deep (w ∷ ws)
-      part_deep h z = labelled_deep t (guard ∷ statement ∷ c ∷ []) e f h opened z
+      part_deep h z = labelled_deep t (guard ∷ statement ∷ c ∷ []) e f h (opened c o) z
 
-      inner : (m : Memo) (k : List Item) → 0 < left → Place n p s left inside m k → Here n s (left - 1) (with_parts m (suc p)) (statement ∷ c ∷ k)
-      inner m k l x = record { counted = x.counted; scoped = x.scoped; nested = let h = x.nested in let y = o in omega arith }
+      inner : (m : Memo) (k : List Item) (left' : ℕ) → suc left' ≡ left → Place n p s left inside m k → Here n s left' (with_parts m (suc p)) (statement ∷ c ∷ k)
+      inner m k left' l x = record { counted = x.counted; scoped = x.scoped; nested = let h = x.nested in let y = o in omega arith }
 
-      part_begins : p < 63 → 0 < left → (m : Memo) (k : List Item) → Place n p s left inside m k → reads (w ∷ ws) m (statement ∷ k) ≡ reads ws (with_parts m (suc p)) (guard ∷ statement ∷ c ∷ k)
-      part_begins h l m k x = labelled_goes t (guard ∷ statement ∷ c ∷ []) e f h m k x (let y = x.nested in let u = opened k in omega arith)
+      part_begins : p < 63 → {left' : ℕ} → suc left' ≡ left → (m : Memo) (k : List Item) → Place n p s left inside m k → reads (w ∷ ws) m (statement ∷ k) ≡ reads ws (with_parts m (suc p)) (guard ∷ statement ∷ c ∷ k)
+      part_begins h l m k x = labelled_goes t (guard ∷ statement ∷ c ∷ []) e f h m k x (let y = x.nested in let u = opened c o k in omega arith)
 
-      pub part_guard : p < 63 → 0 < left → (d : Cause) (v : List Word) → ExpressionStops n s (left - 1) (guard ∷ []) ws d v → Stops n p s left inside (statement ∷ []) (w ∷ ws) d v
-      part_guard h l d v g m k x = part_begins h l m k x ∙ g (with_parts m (suc p)) (statement ∷ c ∷ k) (inner m k l x)
+      pub part_guard : p < 63 → {left' : ℕ} → suc left' ≡ left → (d : Cause) (v : List Word) → ExpressionStops n s left' (guard ∷ []) ws d v → Stops n p s left inside (statement ∷ []) (w ∷ ws) d v
+      part_guard h l d v g m k x = part_begins h l m k x ∙ g (with_parts m (suc p)) (statement ∷ c ∷ k) (inner m k _ l x)
 
-      module _ (inside' : Bool) (loops : (k : List Item) → in_loop k ≡ inside → in_loop (c ∷ k) ≡ inside') (n₁ : ℕ) (ws₁ : List Word) (h : p < 63) (l : 0 < left) (g : ExpressionGoes n s (left - 1) (guard ∷ []) ws ws₁ n₁) where
-        pub part_place : (m : Memo) (k : List Item) → Place n p s left inside m k → Place n₁ (suc p) s (left - 1) inside' (counting (with_parts m (suc p)) n₁) (c ∷ k)
+      module _ (inside' : Bool) (loops : (k : List Item) → in_loop k ≡ inside → in_loop (c ∷ k) ≡ inside') (n₁ : ℕ) (ws₁ : List Word) (h : p < 63) {left' : ℕ} (l : suc left' ≡ left) (g : ExpressionGoes n s left' (guard ∷ []) ws ws₁ n₁) where
+        part_place : (m : Memo) (k : List Item) → Place n p s left inside m k → Place n₁ (suc p) s left' inside' (counting (with_parts m (suc p)) n₁) (c ∷ k)
         part_place m k x = record { counted = refl; read = refl; scoped = x.scoped; nested = (let y = x.nested in let u = o in omega arith); looped = loops k x.looped }
 
         part_guarded : (m : Memo) (k : List Item) → Place n p s left inside m k → reads (w ∷ ws) m (statement ∷ k) ≡ reads ws₁ (counting (with_parts m (suc p)) n₁) (statement ∷ c ∷ k)
-        part_guarded m k x = part_begins h l m k x ∙ g (with_parts m (suc p)) (statement ∷ c ∷ k) (inner m k l x)
+        part_guarded m k x = part_begins h l m k x ∙ g (with_parts m (suc p)) (statement ∷ c ∷ k) (inner m k _ l x)
 
-        pub part_first : (d : Cause) (v : List Word) → Stops n₁ (suc p) s (left - 1) inside' (statement ∷ []) ws₁ d v → Stops n p s left inside (statement ∷ []) (w ∷ ws) d v
+        pub part_first : (d : Cause) (v : List Word) → Stops n₁ (suc p) s left' inside' (statement ∷ []) ws₁ d v → Stops n p s left inside (statement ∷ []) (w ∷ ws) d v
         part_first d v z m k x = part_guarded m k x ∙ z (counting (with_parts m (suc p)) n₁) (c ∷ k) (part_place m k x)
 
-        pub part_read : (n₂ p₂ : ℕ) (ws₂ : List Word) → Goes n₁ (suc p) s (left - 1) inside' (statement ∷ []) ws₁ ws₂ n₂ p₂ → (m : Memo) (k : List Item) → Place n p s left inside m k
+        part_read : (n₂ p₂ : ℕ) (ws₂ : List Word) → Goes n₁ (suc p) s left' inside' (statement ∷ []) ws₁ ws₂ n₂ p₂ → (m : Memo) (k : List Item) → Place n p s left inside m k
             → reads (w ∷ ws) m (statement ∷ k) ≡ reads ws₂ (with_parts (counting m n₂) p₂) (c ∷ k)
         part_read n₂ p₂ ws₂ z m k x = part_guarded m k x ∙ z (counting (with_parts m (suc p)) n₁) (c ∷ k) (part_place m k x)
 
         -- what is left out at its end
-        pub part_goes : optional c ≡ true → (n₂ p₂ : ℕ) (ws₂ : List Word) → Quiet (rules_of c) ws₂ → Goes n₁ (suc p) s (left - 1) inside' (statement ∷ []) ws₁ ws₂ n₂ p₂ → Goes n p s left inside (statement ∷ []) (w ∷ ws) ws₂ n₂ p₂
+        pub part_goes : optional c ≡ true → (n₂ p₂ : ℕ) (ws₂ : List Word) → Quiet (rules_of c) ws₂ → Goes n₁ (suc p) s left' inside' (statement ∷ []) ws₁ ws₂ n₂ p₂ → Goes n p s left inside (statement ∷ []) (w ∷ ws) ws₂ n₂ p₂
         part_goes q n₂ p₂ ws₂ u z m k x = part_read n₂ p₂ ws₂ z m k x ∙ leaves_out c q ws₂ u (with_parts (counting m n₂) p₂) k
 
 -- ---- else
-module _ (n p : ℕ) (s : Scope) (left : ℕ) (inside : Bool) (w : Word) (ws : List Word) (e : w.token ≡ If) (n₁ : ℕ) (ws₁ : List Word) (h : p < 63) (l : 0 < left)
-    (g : ExpressionGoes n s (left - 1) (guard ∷ []) ws ws₁ n₁) (n₂ p₂ : ℕ) (v : Word) (ws₂ : List Word) (f : v.token ≡ Else)
-    (z : Goes n₁ (suc p) s (left - 1) inside (statement ∷ []) ws₁ (v ∷ ws₂) n₂ p₂) where
+module _ {n p : ℕ} {s : Scope} {left : ℕ} {inside : Bool} (w : Word) (ws : List Word) (e : w.token ≡ If) (n₁ : ℕ) (ws₁ : List Word) (h : p < 63) {left' : ℕ} (l : suc left' ≡ left)
+    (g : ExpressionGoes n s left' (guard ∷ []) ws ws₁ n₁) (n₂ p₂ : ℕ) (v : Word) (ws₂ : List Word) (f : v.token ≡ Else)
+    (z : Goes n₁ (suc p) s left' inside (statement ∷ []) ws₁ (v ∷ ws₂) n₂ p₂) where
   else_begins : (m : Memo) (k : List Item) → Place n p s left inside m k → reads (w ∷ ws) m (statement ∷ k) ≡ reads ws₂ (with_parts (counting m n₂) p₂) (statement ∷ end_if ∷ k)
   else_begins m k x =
-      part_read n p s left inside w ws If e other (λ q. refl) refl inside (λ k i. i) n₁ ws₁ h l g n₂ p₂ (v ∷ ws₂) z m k x
+      part_read w ws If e other (λ q. refl) refl inside (λ k i. i) n₁ ws₁ h l g n₂ p₂ (v ∷ ws₂) z m k x
       ∙ takes_word other Else plain (statement ∷ end_if ∷ []) v f (λ q. refl) ws₂ (with_parts (counting m n₂) p₂) (with_parts (counting m n₂) p₂) k (not_deep (statement ∷ end_if ∷ k) (with_parts (counting m n₂) p₂) (let y = x.nested in omega arith))
 
-  else_place : (m : Memo) (k : List Item) → Place n p s left inside m k → Place n₂ p₂ s (left - 1) inside (with_parts (counting m n₂) p₂) (end_if ∷ k)
+  else_place : (m : Memo) (k : List Item) → Place n p s left inside m k → Place n₂ p₂ s left' inside (with_parts (counting m n₂) p₂) (end_if ∷ k)
   else_place m k x = record { counted = refl; read = refl; scoped = x.scoped; nested = (let y = x.nested in omega arith); looped = x.looped }
 
-  pub else_stops : (d : Cause) (u : List Word) → Stops n₂ p₂ s (left - 1) inside (statement ∷ []) ws₂ d u → Stops n p s left inside (statement ∷ []) (w ∷ ws) d u
+  pub else_stops : (d : Cause) (u : List Word) → Stops n₂ p₂ s left' inside (statement ∷ []) ws₂ d u → Stops n p s left inside (statement ∷ []) (w ∷ ws) d u
   else_stops d u y m k x = else_begins m k x ∙ y (with_parts (counting m n₂) p₂) (end_if ∷ k) (else_place m k x)
 
-  pub else_goes : (n₃ p₃ : ℕ) (ws₃ : List Word) → Goes n₂ p₂ s (left - 1) inside (statement ∷ []) ws₂ ws₃ n₃ p₃ → Goes n p s left inside (statement ∷ []) (w ∷ ws) ws₃ n₃ p₃
+  pub else_goes : (n₃ p₃ : ℕ) (ws₃ : List Word) → Goes n₂ p₂ s left' inside (statement ∷ []) ws₂ ws₃ n₃ p₃ → Goes n p s left inside (statement ∷ []) (w ∷ ws) ws₃ n₃ p₃
   else_goes n₃ p₃ ws₃ y m k x = else_begins m k x ∙ y (with_parts (counting m n₂) p₂) (end_if ∷ k) (else_place m k x) ∙ leaves_out end_if refl ws₃ (quiet ws₃) (with_parts (counting m n₃) p₃) k
     where
       quiet : (vs : List Word) → Quiet (rules_of end_if) vs
@@ -256,7 +257,7 @@ reads_fed : (w : Word) (ws : List Word) (m : Memo) (k j : List Item) → feed ta
 unfolding reading
 reads_fed w ws m k j e = ap (stepping causes w ws (reading table causes ws) m) e
 
-pub block_opens : (k : List Item) → Opens (block ∷ k)
+block_opens : (k : List Item) → Opens (block ∷ k)
 block_opens k w ws m e =
     reads_fed w ws m (block ∷ k) (statement ∷ block ∷ k)
     (ap (λ y. next y false k (feed table k w)) (find_later (line (at CloseBrace) plain []) (statement_lines (block ∷ [])) w e ∙ shift_find (block ∷ []) w) ∙ block_next (find (statement_lines []) w) k _ _)
@@ -265,21 +266,21 @@ pub text_opens : Opens (statements ∷ [])
 text_opens w ws m e = reads_fed w ws m (statements ∷ []) (statement ∷ statements ∷ []) (ap (λ y. next y true [] stuck) (shift_find (statements ∷ []) w) ∙ text_next (find (statement_lines []) w) _)
 
 -- ---- { and }
-module _ (n p : ℕ) (s : Scope) (left : ℕ) (inside : Bool) (w : Word) (ws : List Word) (e : w.token ≡ OpenBrace) where
+module _ {n p : ℕ} {s : Scope} {left : ℕ} {inside : Bool} (w : Word) (ws : List Word) (e : w.token ≡ OpenBrace) where
   pub brace_deep : left ≡ 0 → Stops n p s left inside (statement ∷ []) (w ∷ ws) Deep (w ∷ ws)
   brace_deep z m k x = charges_word statement OpenBrace plain (block ∷ []) w e (λ q. refl) ws m k Deep (too_deep (block ∷ k) m (let y = x.nested in omega arith))
 
-  brace_begins : 0 < left → (m : Memo) (k : List Item) → Place n p s left inside m k → reads (w ∷ ws) m (statement ∷ k) ≡ reads ws m (block ∷ k)
+  brace_begins : {left' : ℕ} → suc left' ≡ left → (m : Memo) (k : List Item) → Place n p s left inside m k → reads (w ∷ ws) m (statement ∷ k) ≡ reads ws m (block ∷ k)
   brace_begins l m k x = takes_word statement OpenBrace plain (block ∷ []) w e (λ q. refl) ws m m k (not_deep (block ∷ k) m (let y = x.nested in omega arith))
 
-  brace_place : 0 < left → (m : Memo) (k : List Item) → Place n p s left inside m k → Place n p s (left - 1) inside m (block ∷ k)
+  brace_place : {left' : ℕ} → suc left' ≡ left → (m : Memo) (k : List Item) → Place n p s left inside m k → Place n p s left' inside m (block ∷ k)
   brace_place l m k x = record { counted = x.counted; read = x.read; scoped = x.scoped; nested = (let y = x.nested in omega arith); looped = x.looped }
 
   -- what is inside is read where the block is owed
-  pub brace_stops : 0 < left → (d : Cause) (v : List Word) → ((m : Memo) (k : List Item) → Opens k → Place n p s (left - 1) inside m k → reads ws m k ≡ fault d v) → Stops n p s left inside (statement ∷ []) (w ∷ ws) d v
+  pub brace_stops : {left' : ℕ} → suc left' ≡ left → (d : Cause) (v : List Word) → ((m : Memo) (k : List Item) → Opens k → Place n p s left' inside m k → reads ws m k ≡ fault d v) → Stops n p s left inside (statement ∷ []) (w ∷ ws) d v
   brace_stops l d v z m k x = brace_begins l m k x ∙ z m (block ∷ k) (block_opens k) (brace_place l m k x)
 
-  module _ (l : 0 < left) (n' p' : ℕ) (ws' : List Word) (z : (m : Memo) (k : List Item) → Opens k → Place n p s (left - 1) inside m k → reads ws m k ≡ reads ws' (with_parts (counting m n') p') k) where
+  module _ {left' : ℕ} (l : suc left' ≡ left) (n' p' : ℕ) (ws' : List Word) (z : (m : Memo) (k : List Item) → Opens k → Place n p s left' inside m k → reads ws m k ≡ reads ws' (with_parts (counting m n') p') k) where
     brace_inside : (m : Memo) (k : List Item) → Place n p s left inside m k → reads (w ∷ ws) m (statement ∷ k) ≡ reads ws' (with_parts (counting m n') p') (block ∷ k)
     brace_inside m k x = brace_begins l m k x ∙ z m (block ∷ k) (block_opens k) (brace_place l m k x)
 

@@ -1,5 +1,5 @@
 -- How the table reads a declaration, and what it adds to what has been declared. Assumes nothing.
-use Rattle.std.proofs.Common.{◌≡◌, ℕ, zero, suc, ◌*◌, ◌<◌, ◌≤◌, Bool, true, false, not, ◌&&◌, ltb, List, [], ◌∷◌, ◌++◌, map, length, get_or, set, ℤ, pos, negsuc, ◌-ℤ◌, nat_abs, ◌≤ℤ◌, Some, None, Option, sym, refl, ap, ◌∙◌, subst, inl, inr, mul_assoc, mul_comm, one-mul, arith, le-ltb, lt-ltb}
+use Rattle.std.proofs.Common.{◌≡◌, ℕ, zero, suc, ◌*◌, ◌<◌, ◌≤◌, Bool, true, false, not, ◌&&◌, ltb, is_some, List, [], ◌∷◌, ◌++◌, map, length, get_or, set, ℤ, pos, negsuc, ◌-ℤ◌, nat_abs, ◌≤ℤ◌, Some, None, Option, sym, refl, ap, ◌∙◌, subst, inl, inr, mul_assoc, mul_comm, one-mul, arith, le-ltb, lt-ltb}
 use borrow.Author.Tests.{clash}
 use Rattle.grammar.specs.Grammars.{Quiet}
 use Rattle.grammar.specs.Answers.{Charge, fine, fault}
@@ -18,7 +18,7 @@ use Rattle.std.proofs.lemmas.Int.{ints}
 use Rattle.std.proofs.lemmas.Bool.{and_parts, and_from, cases_Bool}
 use Rattle.grammar.proofs.Trees.{find_later}
 use Rattle.text.specs.declared.reading.Fault.{Fault}
-use Rattle.text.specs.declared.word.Scope.TheVariants.{Declared}
+use Rattle.text.specs.declared.word.Scope.TheVariants.{Declared as InScope}
 use Rattle.text.specs.declared.word.Register.TheVariants.{A as ra, B as rb, C as rc, D as rd, E as re, F as rf}
 use Rattle.text.specs.Reading.{place_of, FaultAt}
 use Rattle.traces.specs.declared.range.Range.{Range}
@@ -29,9 +29,11 @@ use Rattle.traces.specs.Codes.{settings}
 use Rattle.traces.proofs.Spans.{Ordered, ordered, is_proper, range_ordered}
 use Rattle.syntax.specs.Phrases.{Bound, Bounds, Declares, register, Ranged}
 use Rattle.syntax.proofs.Forth.{from_register, letter_found, following_is}
-use Rattle.syntax.proofs.Letters.{index_small}
 use Rattle.program.specs.declared.header.Header.{Header}
-use Rattle.program.specs.Headers.{shifted, BoundRead, BoundStopped, flag, HeaderRead, HeaderStopped, Unlettered}
+use Rattle.program.specs.Headers.{shifted, BoundRead, BoundStopped, HeaderRead, HeaderStopped, Unlettered}
+use Rattle.program.specs.Boards.{Charged}
+use Rattle.program.specs.Growth.{Declared}
+use Rattle.std.proofs.lemmas.List.{map-set}
 
 -- ---- the register of a place
 record At (i : ℕ) : Type 0 where
@@ -96,31 +98,14 @@ ranged_set (None ∷ ds) (Some q ∷ rs) (suc i) b r h e f g l = absurd h
 ranged_set (Some d ∷ ds) (None ∷ rs) (suc i) b r h e f g l = absurd h
 ranged_set (Some d ∷ ds) (Some q ∷ rs) (suc i) b r h e f g l = (h.0, h.1, h.2, h.3, ranged_set ds rs i b r h.4 e f g l)
 
-flags_set : (rs : List (Option Range)) (i : ℕ) (r : Range) → map flag (set rs i (Some r)) ≡ set (map flag rs) i true
-flags_set [] i r = refl
-flags_set (q ∷ rs) zero r = refl
-flags_set (q ∷ rs) (suc i) r = ap (λ v. flag q ∷ v) (flags_set rs i r)
-
-settings_set : (rs : List (Option Range)) (i : ℕ) (r : Range) → i < length rs → get_or rs i None ≡ None → settings (map range (set rs i (Some r))) ≡ settings (map range rs) * suc (above r.from r.to)
+pub settings_set : (rs : List (Option Range)) (i : ℕ) (r : Range) → i < length rs → get_or rs i None ≡ None → settings (map range (set rs i (Some r))) ≡ settings (map range rs) * suc (above r.from r.to)
 settings_set [] i r h e = absurd (omega arith)
 settings_set (q ∷ rs) zero r h e = mul_comm (suc (above r.from r.to)) (settings (map range rs)) ∙ ap (λ n. n * suc (above r.from r.to)) (sym (ap (λ (o : Option Range). suc (above (range o).from (range o).to) * settings (map range rs)) e ∙ one-mul (settings (map range rs))))
 settings_set (q ∷ rs) (suc i) r h e =
     ap (λ n. suc (above (range q).from (range q).to) * n) (settings_set rs i r (omega arith) e) ∙ sym (mul_assoc (suc (above (range q).from (range q).to)) (settings (map range rs)) (suc (above r.from r.to)))
 
-none_set : (rs : List (Option Range)) (i j : ℕ) (r : Range) → i < j → get_or (set rs i (Some r)) j None ≡ get_or rs j None
-none_set [] i j r h = refl
-none_set (q ∷ rs) zero zero r h = absurd (omega arith)
-none_set (q ∷ rs) zero (suc j) r h = refl
-none_set (q ∷ rs) (suc i) zero r h = absurd (omega arith)
-none_set (q ∷ rs) (suc i) (suc j) r h = none_set rs i j r (omega arith)
-
-set_long : (rs : List (Option Range)) (i : ℕ) (o : Option Range) → length (set rs i o) ≡ length rs
-set_long [] i o = refl
-set_long (q ∷ rs) zero o = refl
-set_long (q ∷ rs) (suc i) o = ap suc (set_long rs i o)
-
 -- ---- the words of a declaration
-module _ (ws₀ : List Word) (h : Header) (w : Word) (words : List Word) (e : w.token ≡ Reg) (small : h.next < 6) (R : HeaderRead ws₀ h (w ∷ words)) where
+module _ {ws₀ : List Word} {h : Header} {w : Word} {words : List Word} (e : w.token ≡ Reg) (small : h.next < 6) (R : HeaderRead ws₀ h (w ∷ words)) where
   reg_goes : reads ws₀ program_memo program_start ≡ reads words R.memo (declared_letter (at_place h.next small).name ∷ statements ∷ [])
   reg_goes =
       let a = at_place h.next small in
@@ -141,7 +126,7 @@ module _ (ws₀ : List Word) (h : Header) (w : Word) (words : List Word) (e : w.
   stopped : (end : ℕ) (f : Fault) (v : List Word) → f.place ≡ place_of end v → reads ws₀ program_memo program_start ≡ fault f.cause v → HeaderStopped end ws₀ f
   stopped end f v p g = record { words = v; place_is = p; stops = g }
 
-  module _ (v : Word) (q : Register) (ws₁ : List Word) (s : words ≡ v ∷ ws₁) (f : v.token ≡ Current q) (l : h.next ≤ register_index q) where
+  module _ {v : Word} {q : Register} {ws₁ : List Word} (s : words ≡ v ∷ ws₁) (f : v.token ≡ Current q) (l : h.next ≤ register_index q) where
     abbrev m₁ : Memo
     m₁ = declaring R.memo (register_index q)
 
@@ -158,28 +143,28 @@ module _ (ws₀ : List Word) (h : Header) (w : Word) (words : List Word) (e : w.
     pub first_stopped : (end : ℕ) (g : Fault) → BoundStopped end ws₁ g → HeaderStopped end ws₀ g
     first_stopped end g b = stopped end g b.words b.place_is (letter_goes ∙ b.stops m₁ (bound ∷ bound ∷ bound ∷ close_declaration ∷ F) refl (let y = flat q in omega arith))
 
-    module _ (z₁ : ℤ) (ws₂ : List Word) (b₁ : BoundRead ws₁ z₁ ws₂) where
+    module _ {z₁ : ℤ} {ws₂ : List Word} (b₁ : BoundRead ws₁ z₁ ws₂) where
       goes₁ : reads ws₀ program_memo program_start ≡ reads ws₂ (shifted m₁ z₁) (bound ∷ bound ∷ bound ∷ close_declaration ∷ F)
       goes₁ = letter_goes ∙ b₁.goes m₁ (bound ∷ bound ∷ bound ∷ close_declaration ∷ F) refl (let y = flat q in omega arith)
 
       pub second_stopped : (end : ℕ) (g : Fault) → BoundStopped end ws₂ g → HeaderStopped end ws₀ g
       second_stopped end g b = stopped end g b.words b.place_is (goes₁ ∙ b.stops (shifted m₁ z₁) (bound ∷ bound ∷ close_declaration ∷ F) refl (let y = flat q in omega arith))
 
-      module _ (z₂ : ℤ) (ws₃ : List Word) (b₂ : BoundRead ws₂ z₂ ws₃) where
+      module _ {z₂ : ℤ} {ws₃ : List Word} (b₂ : BoundRead ws₂ z₂ ws₃) where
         goes₂ : reads ws₀ program_memo program_start ≡ reads ws₃ (shifted (shifted m₁ z₁) z₂) (bound ∷ bound ∷ close_declaration ∷ F)
         goes₂ = goes₁ ∙ b₂.goes (shifted m₁ z₁) (bound ∷ bound ∷ close_declaration ∷ F) refl (let y = flat q in omega arith)
 
         pub third_stopped : (end : ℕ) (g : Fault) → BoundStopped end ws₃ g → HeaderStopped end ws₀ g
         third_stopped end g b = stopped end g b.words b.place_is (goes₂ ∙ b.stops (shifted (shifted m₁ z₁) z₂) (bound ∷ close_declaration ∷ F) refl (let y = flat q in omega arith))
 
-        module _ (z₃ : ℤ) (ws₄ : List Word) (b₃ : BoundRead ws₃ z₃ ws₄) where
+        module _ {z₃ : ℤ} {ws₄ : List Word} (b₃ : BoundRead ws₃ z₃ ws₄) where
           goes₃ : reads ws₀ program_memo program_start ≡ reads ws₄ (shifted (shifted (shifted m₁ z₁) z₂) z₃) (bound ∷ close_declaration ∷ F)
           goes₃ = goes₂ ∙ b₃.goes (shifted (shifted m₁ z₁) z₂) (bound ∷ close_declaration ∷ F) refl (let y = flat q in omega arith)
 
           pub fourth_stopped : (end : ℕ) (g : Fault) → BoundStopped end ws₄ g → HeaderStopped end ws₀ g
           fourth_stopped end g b = stopped end g b.words b.place_is (goes₃ ∙ b.stops (shifted (shifted (shifted m₁ z₁) z₂) z₃) (close_declaration ∷ F) refl (let y = flat q in omega arith))
 
-          module _ (z₄ : ℤ) (ws₅ : List Word) (b₄ : BoundRead ws₄ z₄ ws₅) where
+          module _ {z₄ : ℤ} {ws₅ : List Word} (b₄ : BoundRead ws₄ z₄ ws₅) where
             abbrev m₄ : Memo
             m₄ = shifted (shifted (shifted (shifted m₁ z₁) z₂) z₃) z₄
 
@@ -193,7 +178,7 @@ module _ (ws₀ : List Word) (h : Header) (w : Word) (words : List Word) (e : w.
                 quiet [] u = tt
                 quiet (x ∷ vs) u = find_later (line (at Semicolon) ends_declaration []) [] x u
 
-            module _ (c : Word) (mid : List Word) (t : ws₅ ≡ c ∷ mid) (g : c.token ≡ Semicolon) where
+            module _ {c : Word} {mid : List Word} (t : ws₅ ≡ c ∷ mid) (g : c.token ≡ Semicolon) where
               charge_at : (b : Bool) (d : Charge Memo Cause) → ranged m₄ ≡ b → when (ltb 65536 (more_settings m₄)) TooMany (deep F (with_settings m₄ (more_settings m₄))) ≡ d → charge m₄ ends_declaration c F ≡ when (not b) OutOfRange d
               charge_at b d x y = ap (λ u. when (not u) OutOfRange (when (ltb 65536 (more_settings m₄)) TooMany (deep F (with_settings m₄ (more_settings m₄))))) x ∙ ap (when (not b) OutOfRange) y
 
@@ -210,10 +195,10 @@ module _ (ws₀ : List Word) (h : Header) (w : Word) (words : List Word) (e : w.
                     let o = range_ordered r in
                     ap (λ n. n * suc (gap (z₄ -ℤ z₃))) R.heads.settings_are ∙ ap (λ n. h.settings * suc n) (ap (λ a. gap (a -ℤ z₃)) (sym e₄) ∙ ap (λ a. gap (r.to -ℤ a)) (sym e₃) ∙ gap_is r.from r.to o.some)
 
-                pub too_many : (end : ℕ) (k : Fault) → 65536 < h.settings * suc (above r.from r.to) → k.cause ≡ TooMany → k.place ≡ c.place → HeaderStopped end ws₀ k
-                too_many end k n x y = let i = count_is in stopped end k (c ∷ mid) y
+                pub too_many : (end : ℕ) (k : Fault) → Charged (65536 < h.settings * suc (above r.from r.to)) TooMany c k → HeaderStopped end ws₀ k
+                too_many end k x = let i = count_is in let n = x.why in stopped end k (c ∷ mid) x.place_is
                     (goes₄ ∙ ap (λ u. reads u m₄ (close_declaration ∷ F)) t ∙ charges_word close_declaration Semicolon ends_declaration [] c g (λ _. refl) mid m₄ F TooMany
-                    (charge_at true _ (ranged_is z₁ z₂ z₃ z₄ sound) (ap (λ b. when b TooMany (deep F (with_settings m₄ (more_settings m₄)))) (lt-ltb 65536 (more_settings m₄) (omega arith)))) ∙ ap (λ u. fault u (c ∷ mid)) (sym x))
+                    (charge_at true _ (ranged_is z₁ z₂ z₃ z₄ sound) (ap (λ b. when b TooMany (deep F (with_settings m₄ (more_settings m₄)))) (lt-ltb 65536 (more_settings m₄) (omega arith)))) ∙ ap (λ u. fault u (c ∷ mid)) (sym x.cause_is))
 
                 declared_goes : (n : ℕ) → n ≡ h.settings * suc (above r.from r.to) → n ≤ 65536 → reads ws₀ program_memo program_start ≡ reads mid (with_settings m₄ n) (from_register (suc (register_index q)) ++ statements ∷ [])
                 declared_goes n a b =
@@ -223,12 +208,13 @@ module _ (ws₀ : List Word) (h : Header) (w : Word) (words : List Word) (e : w.
                     (charge_at true _ (ranged_is z₁ z₂ z₃ z₄ sound) (ap (λ u. when u TooMany (deep F (with_settings m₄ (more_settings m₄)))) (le-ltb 65536 (more_settings m₄) (omega arith)) ∙ not_deep F (with_settings m₄ (more_settings m₄)) (let y = flat q in omega arith) ∙ ap (λ u. fine (with_settings m₄ u)) (i ∙ sym a)))
                     ∙ ap (λ js. reads mid (with_settings m₄ n) (js ++ statements ∷ [])) (following_is q)
 
-                pub declared_read : (y : Header) → (y.ranges ≡ set h.ranges (register_index q) (Some r)) → (y.settings ≡ h.settings * suc (above r.from r.to)) → y.settings ≤ 65536 → y.next ≡ suc (register_index q) → HeaderRead ws₀ y mid
-                declared_read y a b n k =
+                pub declared_read : (y : Header) → Declared q r h y → HeaderRead ws₀ y mid
+                declared_read y x =
                     let i = register_index q in
-                    let p = index_small q in
+                    let a = x.ranges in
+                    let b = x.settings in
+                    let k = x.next in
                     let H = R.heads in
-                    let six' = H.six in
                     record {
                       bounds = set R.bounds i (Some (record { low = z₁; high = z₂; from = z₃; to = z₄ }));
                       memo = with_settings m₄ y.settings;
@@ -238,14 +224,9 @@ module _ (ws₀ : List Word) (h : Header) (w : Word) (words : List Word) (e : w.
                         read = H.read;
                         plain = refl;
                         settings_are = refl;
-                        scoped = ap (λ u. declare u i) H.scoped ∙ ap Declared (sym (flags_set h.ranges i r)) ∙ ap (λ rs. Declared (map flag rs)) (sym a);
-                        few = n;
-                        product = b ∙ ap (λ u. u * suc (above r.from r.to)) H.product ∙ sym (settings_set h.ranges i r (omega arith) (H.fresh i l)) ∙ ap (λ rs. settings (map range rs)) (sym a);
-                        next_small = omega arith;
-                        fresh = λ j x. ap (λ rs. get_or rs j None) a ∙ none_set h.ranges i j r (omega arith) ∙ H.fresh j (omega arith);
-                        six = ap length a ∙ set_long h.ranges i (Some r) ∙ H.six;
+                        scoped = ap (λ u. declare u i) H.scoped ∙ ap InScope (sym (map-set is_some h.ranges i (Some r))) ∙ ap (λ rs. InScope (map is_some rs)) (sym a);
                       };
                       derives = λ es rest d. R.derives es rest (subst (λ us. Declares h.next R.bounds (w ∷ us) es rest) (sym s)
                           (register e f l b₁.derives b₂.derives b₃.derives (subst (λ us. Bound ws₄ z₄ us) t b₄.derives) g (subst (λ u. Declares u (set R.bounds i (Some (record { low = z₁; high = z₂; from = z₃; to = z₄ }))) mid es rest) k d)));
-                      goes = declared_goes y.settings b n ∙ ap (λ u. reads mid (with_settings m₄ y.settings) (from_register u ++ statements ∷ [])) (sym k);
+                      goes = declared_goes y.settings b y.few ∙ ap (λ u. reads mid (with_settings m₄ y.settings) (from_register u ++ statements ∷ [])) (sym k);
                     }

@@ -1,6 +1,7 @@
 pub mod Chains
 pub mod Parts
 pub mod Guards
+pub mod Openings
 pub mod Shorter
 pub mod Compounds
 pub mod Bounding

@@ -1,5 +1,5 @@
 -- The exits that are computed are those of the tree. Assumes nothing.
-use Rattle.std.proofs.Common.{◌≡◌, ℕ, zero, suc, ◌+◌, ◌<◌, cond, ltb, List, [], ◌∷◌, length, get_or, Some, None, sym, refl, ap, ◌∙◌, subst, arith}
+use Rattle.std.proofs.Common.{◌≡◌, ℕ, zero, suc, ◌+◌, ◌<◌, cond, List, [], ◌∷◌, length, get_or, Some, None, Option, sym, refl, ap, ◌∙◌, subst, arith}
 use Rattle.std.proofs.lemmas.Bool.{le-ltb}
 use Rattle.text.specs.declared.node.ArithNode.{ArithNode}
 use Rattle.text.specs.declared.node.TestNode.{TestNode}
@@ -10,7 +10,8 @@ use Rattle.program.specs.declared.draft.Draft.{Draft}
 use Rattle.program.specs.declared.exits.Exits.{Exits}
 use Rattle.program.specs.declared.exits.Around.{Around}
 use Rattle.program.specs.Outcomes.{KindFor, DraftFor, DraftsFor}
-use Rattle.program.specs.Linked.{draft_at, exits_at, around_at, enclosed_kind, owner_of}
+use Rattle.program.proofs.Parts.{drafts_long}
+use Rattle.program.specs.Linked.{Drafted, OwnerAt, SameExits, SameAround, draft_at, exits_at, around_at, enclosed_kind, enclosed_by, owner_of}
 
 drafted_by : (D : ℕ → PureDraft) (X : ℕ → PureExits) (n : ℕ) (ps : List PureDraft) (ℓ : ℕ) → ((i : ℕ) → i < length ps → D (ℓ + i) ≡ get_or ps i (draft to_skip None 0)) → PureDrafted D X n ℓ ps
 drafted_by D X n [] ℓ h = tt
@@ -37,62 +38,53 @@ rule body j h =
     j (omega arith) (omega arith)
 
 module _ (ns : List ArithNode) (ts : List TestNode) where
-  pub long : (ds : List Draft) (ps : List PureDraft) → DraftsFor ns ts ds ps → length ds ≡ length ps
-  long [] [] h = refl
-  long [] (p ∷ ps) h = absurd h
-  long (d ∷ ds) [] h = absurd h
-  long (d ∷ ds) (p ∷ ps) h = ap suc (long ds ps h.1)
-
   pub for_at : (ds : List Draft) (ps : List PureDraft) (j : ℕ) (d₀ : Draft) (p₀ : PureDraft) → DraftsFor ns ts ds ps → j < length ds → DraftFor ns ts (get_or ds j d₀) (get_or ps j p₀)
   for_at [] ps j d₀ p₀ h l = absurd (omega arith)
   for_at (d ∷ ds) [] j d₀ p₀ h l = absurd h
   for_at (d ∷ ds) (p ∷ ps) zero d₀ p₀ h l = h.0
   for_at (d ∷ ds) (p ∷ ps) (suc j) d₀ p₀ h l = for_at ds ps j d₀ p₀ h.1 (omega arith)
 
-  pub owner_at : (ds : List Draft) (ps : List PureDraft) (j : ℕ) (p₀ : PureDraft) → DraftsFor ns ts ds ps → j < length ds → owner_of ds j ≡ (get_or ps j p₀).owner
+  owner_at : (ds : List Draft) (ps : List PureDraft) (j : ℕ) (p₀ : PureDraft) → DraftsFor ns ts ds ps → j < length ds → owner_of ds j ≡ (get_or ps j p₀).owner
   owner_at [] ps j p₀ h l = absurd (omega arith)
   owner_at (d ∷ ds) [] j p₀ h l = absurd h
   owner_at (d ∷ ds) (p ∷ ps) zero p₀ h l = h.0.owner_is
   owner_at (d ∷ ds) (p ∷ ps) (suc j) p₀ h l = owner_at ds ps j p₀ h.1 (omega arith)
 
   pub as_long : (ds : List Draft) (body : Part) → DraftsFor ns ts ds (drafts body 0 None) → length ds ≡ size body
-  as_long ds body h = long ds (drafts body 0 None) h ∙ drafts_length body 0 None
+  as_long ds body h = drafts_long ns ts ds (drafts body 0 None) h ∙ drafts_length body 0 None
 
   -- the part of an owner
-  enclosed_is : (k : Kind) (p : PureKind) (end owner label : ℕ) (own : Exits) (x : PureExits) → KindFor ns ts k p → own.after ≡ x.after → own.breaks ≡ x.breaks
-      → ((enclosed_kind k end owner own label).limit ≡ (part_of owner p end x label).limit) × ((enclosed_kind k end owner own label).after ≡ (part_of owner p end x label).after) × ((enclosed_kind k end owner own label).breaks ≡ (part_of owner p end x label).breaks)
-  enclosed_is k (to_set v e) end owner label own x h a b = subst (λ (q : Kind). ((enclosed_kind q end owner own label).limit ≡ end) × ((enclosed_kind q end owner own label).after ≡ x.after) × ((enclosed_kind q end owner own label).breaks ≡ x.breaks)) (sym h.2) (refl, a, b)
-  enclosed_is k (to_sense v) end owner label own x h a b = subst (λ (q : Kind). ((enclosed_kind q end owner own label).limit ≡ end) × ((enclosed_kind q end owner own label).after ≡ x.after) × ((enclosed_kind q end owner own label).breaks ≡ x.breaks)) (sym h.1) (refl, a, b)
-  enclosed_is k to_skip end owner label own x h a b = subst (λ (q : Kind). ((enclosed_kind q end owner own label).limit ≡ end) × ((enclosed_kind q end owner own label).after ≡ x.after) × ((enclosed_kind q end owner own label).breaks ≡ x.breaks)) (sym h) (refl, a, b)
-  enclosed_is k to_break end owner label own x h a b = subst (λ (q : Kind). ((enclosed_kind q end owner own label).limit ≡ end) × ((enclosed_kind q end owner own label).after ≡ x.after) × ((enclosed_kind q end owner own label).breaks ≡ x.breaks)) (sym h) (refl, a, b)
-  enclosed_is k (to_choose t m) end owner label own x h a b = subst (λ (q : Kind). ((enclosed_kind q end owner own label).limit ≡ cond (ltb label m) m end) × ((enclosed_kind q end owner own label).after ≡ x.after) × ((enclosed_kind q end owner own label).breaks ≡ x.breaks)) (sym h.1) (refl, a, b)
-  enclosed_is k (to_repeat t) end owner label own x h a b = subst (λ (q : Kind). ((enclosed_kind q end owner own label).limit ≡ end) × ((enclosed_kind q end owner own label).after ≡ owner) × ((enclosed_kind q end owner own label).breaks ≡ x.after)) (sym h.1) (refl, refl, a)
+  enclosed_is : (k : Kind) (p : PureKind) (end owner label : ℕ) (own : Exits) (x : PureExits) → KindFor ns ts k p → SameExits own x → SameAround (enclosed_kind k end owner own label) (part_of owner p end x label)
+  enclosed_is k (to_set v e) end owner label own x h a = subst (λ (q : Kind). SameAround (enclosed_kind q end owner own label) (part_of owner (to_set v e) end x label)) (sym h.2) (refl, a.0, a.1)
+  enclosed_is k (to_sense v) end owner label own x h a = subst (λ (q : Kind). SameAround (enclosed_kind q end owner own label) (part_of owner (to_sense v) end x label)) (sym h.1) (refl, a.0, a.1)
+  enclosed_is k to_skip end owner label own x h a = subst (λ (q : Kind). SameAround (enclosed_kind q end owner own label) (part_of owner to_skip end x label)) (sym h) (refl, a.0, a.1)
+  enclosed_is k to_break end owner label own x h a = subst (λ (q : Kind). SameAround (enclosed_kind q end owner own label) (part_of owner to_break end x label)) (sym h) (refl, a.0, a.1)
+  enclosed_is k (to_choose t m) end owner label own x h a = subst (λ (q : Kind). SameAround (enclosed_kind q end owner own label) (part_of owner (to_choose t m) end x label)) (sym h.1) (refl, a.0, a.1)
+  enclosed_is k (to_repeat t) end owner label own x h a = subst (λ (q : Kind). SameAround (enclosed_kind q end owner own label) (part_of owner (to_repeat t) end x label)) (sym h.1) (refl, refl, a.0)
 
   pub around_none : (ds : List Draft) (label : ℕ) (body : Part) → DraftsFor ns ts ds (drafts body 0 None) → label < length ds → None ≡ owner_of ds label
-      → (length ds ≡ (around_at body label).limit) × (length ds ≡ (around_at body label).after) × (length ds ≡ (around_at body label).breaks)
+      → SameAround (record { limit = length ds; exits = record { after = length ds; breaks = length ds } }) (around_at body label)
   around_none ds label body h l o =
       let e = o ∙ owner_at ds (drafts body 0 None) label (draft to_skip None 0) h l in
       let n = as_long ds body h in
-      subst (λ q. (length ds ≡ (around_of (draft_at body) (exits_at body) (size body) q label).limit) × (length ds ≡ (around_of (draft_at body) (exits_at body) (size body) q label).after) × (length ds ≡ (around_of (draft_at body) (exits_at body) (size body) q label).breaks)) e (n, n, n)
+      subst (λ q. SameAround (record { limit = length ds; exits = record { after = length ds; breaks = length ds } }) (around_of (draft_at body) (exits_at body) (size body) q label)) e (n, n, n)
 
-  pub around_some : (ds : List Draft) (label outer : ℕ) (body : Part) (d : Draft) (own : Exits) → DraftsFor ns ts ds (drafts body 0 None) → label < length ds → outer < length ds → Some outer ≡ owner_of ds label
-      → own.after ≡ (exits_at body outer).after → own.breaks ≡ (exits_at body outer).breaks
-      → ((enclosed_kind (get_or ds outer d).kind (get_or ds outer d).end outer own label).limit ≡ (around_at body label).limit) × ((enclosed_kind (get_or ds outer d).kind (get_or ds outer d).end outer own label).after ≡ (around_at body label).after) × ((enclosed_kind (get_or ds outer d).kind (get_or ds outer d).end outer own label).breaks ≡ (around_at body label).breaks)
-  around_some ds label outer body d own h l l' o a b =
+  pub around_some : (ds : List Draft) (label outer : ℕ) (body : Part) (d : Draft) (own : Exits) → DraftsFor ns ts ds (drafts body 0 None) → label < length ds → outer < length ds → Some outer ≡ owner_of ds label → SameExits own (exits_at body outer)
+      → SameAround (enclosed_by (get_or ds outer d) outer own label) (around_at body label)
+  around_some ds label outer body d own h l l' o a =
       let e = o ∙ owner_at ds (drafts body 0 None) label (draft to_skip None 0) h l in
       let f = for_at ds (drafts body 0 None) outer d (draft to_skip None 0) h l' in
-      let k = enclosed_is (get_or ds outer d).kind (draft_at body outer).kind (get_or ds outer d).end outer label own (exits_at body outer) f.kind_is a b in
-      subst (λ q. ((enclosed_kind (get_or ds outer d).kind (get_or ds outer d).end outer own label).limit ≡ (around_of (draft_at body) (exits_at body) (size body) q label).limit) × ((enclosed_kind (get_or ds outer d).kind (get_or ds outer d).end outer own label).after ≡ (around_of (draft_at body) (exits_at body) (size body) q label).after) × ((enclosed_kind (get_or ds outer d).kind (get_or ds outer d).end outer own label).breaks ≡ (around_of (draft_at body) (exits_at body) (size body) q label).breaks)) e
-      (subst (λ n. ((enclosed_kind (get_or ds outer d).kind (get_or ds outer d).end outer own label).limit ≡ (part_of outer (draft_at body outer).kind n (exits_at body outer) label).limit) × ((enclosed_kind (get_or ds outer d).kind (get_or ds outer d).end outer own label).after ≡ (part_of outer (draft_at body outer).kind n (exits_at body outer) label).after) × ((enclosed_kind (get_or ds outer d).kind (get_or ds outer d).end outer own label).breaks ≡ (part_of outer (draft_at body outer).kind n (exits_at body outer) label).breaks)) f.end_is k)
+      let k = enclosed_is (get_or ds outer d).kind (draft_at body outer).kind (get_or ds outer d).end outer label own (exits_at body outer) f.kind_is a in
+      subst (λ q. SameAround (enclosed_by (get_or ds outer d) outer own label) (around_of (draft_at body) (exits_at body) (size body) q label)) e
+      (subst (λ n. SameAround (enclosed_by (get_or ds outer d) outer own label) (part_of outer (draft_at body outer).kind n (exits_at body outer) label)) f.end_is k)
 
-  pub exits_are : (ds : List Draft) (label : ℕ) (body : Part) (d : Draft) (p : Around) → DraftsFor ns ts ds (drafts body 0 None) → label < length ds
-      → (p.limit ≡ (around_at body label).limit) × (p.after ≡ (around_at body label).after) × (p.breaks ≡ (around_at body label).breaks)
-      → (entry (get_or ds label d).end p.limit p.after ≡ (exits_at body label).after) × (p.breaks ≡ (exits_at body label).breaks)
+  pub exits_are : (ds : List Draft) (label : ℕ) (body : Part) (d : Draft) (p : Around) → DraftsFor ns ts ds (drafts body 0 None) → label < length ds → SameAround p (around_at body label)
+      → SameExits (record { after = entry (get_or ds label d).end p.limit p.exits.after; breaks = p.exits.breaks }) (exits_at body label)
   exits_are ds label body d p h l q =
       let n = as_long ds body h in
       let r = rule body label (omega arith) in
       let f = for_at ds (drafts body 0 None) label d (draft to_skip None 0) h l in (
-        ap (λ x. entry x p.limit p.after) f.end_is ∙ ap (λ x. entry (draft_at body label).end x p.after) q.0 ∙ ap (λ x. entry (draft_at body label).end (around_at body label).limit x) q.1 ∙ sym (ap (λ (x : PureExits). x.after) r.exits_are),
+        ap (λ x. entry x p.limit p.exits.after) f.end_is ∙ ap (λ x. entry (draft_at body label).end x p.exits.after) q.0 ∙ ap (λ x. entry (draft_at body label).end (around_at body label).limit x) q.1 ∙ sym (ap (λ (x : PureExits). x.after) r.exits_are),
         q.2 ∙ sym (ap (λ (x : PureExits). x.breaks) r.exits_are),
       )
 
@@ -108,3 +100,7 @@ pub owner_get : (ds : List Draft) (j : ℕ) (d : Draft) → j < length ds → (g
 owner_get [] j d l = absurd (omega arith)
 owner_get (x ∷ ds) zero d l = refl
 owner_get (x ∷ ds) (suc j) d l = owner_get ds j d (omega arith)
+
+-- the statement that owns another stands before it
+pub outer_before : (ds : List Draft) (label outer : ℕ) (o : Option ℕ) → label < length ds → OwnerAt ds label o × Drafted ds → o ≡ Some outer → outer < label
+outer_before ds label outer o l r e = owner_before r.1.0 r.1.1 ds label outer r.1.2 r.1.3 l (sym e ∙ r.0)

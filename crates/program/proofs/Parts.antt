@@ -26,18 +26,12 @@ use Rattle.program.specs.Places.{Goes, Stops}
 use Rattle.program.specs.Outcomes.{KindFor, DraftsFor, Grown, PhraseRead, PhraseStopped, Letter}
 
 pub phrase_stops : {js : List Item} {site : Site} {ws : List Word} {x : Board} (f : Fault) (c : Cause) (v : List Word) → f.cause ≡ c → f.place ≡ place_of site.limits.end v
-    → Stops x.expressions.counted (vec_len x.drafts) site.limits.scope site.left site.inside js ws c v → PhraseStopped js site ws x f
+    → Stops x.expressions.counted (vec_len x.drafts) site.limits.scope site.limits.left site.inside js ws c v → PhraseStopped js site ws x f
 phrase_stops {js} {site} {ws} {x} f c v e p s = record {
   words = v;
   place_is = p;
-  stops = subst (λ d. Stops x.expressions.counted (vec_len x.drafts) site.limits.scope site.left site.inside js ws d v) (sym e) s;
+  stops = subst (λ d. Stops x.expressions.counted (vec_len x.drafts) site.limits.scope site.limits.left site.inside js ws d v) (sym e) s;
 }
-
-pub stopped_at : {js : List Item} {site : Site} {ws vs : List Word} {x : Board} {f : Fault} → ws ≡ vs → PhraseStopped js site vs x f → PhraseStopped js site ws x f
-stopped_at {js} {site} {x = x} {f = f} e s = subst (λ y. PhraseStopped js site y x f) (sym e) s
-
-pub read_at : {js : List Item} {D : List Word → Part → List Word → Type 0} {site : Site} {ws vs rest : List Word} {x y : Board} → ws ≡ vs → PhraseRead js D site vs x y rest → PhraseRead js D site ws x y rest
-read_at {js} {D} {site} {rest = rest} {x = x} {y = y} e r = subst (λ z. PhraseRead js D site z x y rest) (sym e) r
 
 -- nothing added
 pub grown_none : (x : Expressions) → Grown x x
@@ -106,22 +100,22 @@ pushed_long x z d e =
     omega arith
 
 -- a statement that is one draft
-pub leaf_read : (s : Part) (p : PureKind) (site : Site) (ws rest : List Word) (x z : Board) (e : Expressions) (k : Kind) (n : ℕ)
+pub leaf_read : (s : Part) (p : PureKind) (site : Site) (ws rest : List Word) (x z : Board) (e : Expressions) (k : Kind)
     → drafts s (vec_len x.drafts) site.owner ≡ (record { kind = p; owner = site.owner; end = vec_len x.drafts + 1 }) ∷ []
     → States one ws s rest
-    → Goes x.expressions.counted (vec_len x.drafts) site.limits.scope site.left site.inside (statement ∷ []) ws rest e.counted (suc (vec_len x.drafts))
-    → vec_items z.drafts ≡ vec_items x.drafts ++ (record { kind = k; owner = site.owner; end = n }) ∷ [] → n ≡ vec_len x.drafts + 1 → z.expressions ≡ e
+    → Goes x.expressions.counted (vec_len x.drafts) site.limits.scope site.limits.left site.inside (statement ∷ []) ws rest e.counted (suc (vec_len x.drafts))
+    → vec_items z.drafts ≡ vec_items x.drafts ++ (record { kind = k; owner = site.owner; end = vec_len x.drafts + 1 }) ∷ [] → z.expressions ≡ e
     → KindFor (vec_items e.ariths) (vec_items e.tests) k p → Grown x.expressions e → PhraseRead (statement ∷ []) (States one) site ws x z rest
-leaf_read s p site ws rest x z e k n same d g a l f h w = record {
+leaf_read s p site ws rest x z e k same d g a f h w = record {
   tree = s;
   derives = d;
-  goes = subst (λ q. Goes x.expressions.counted (vec_len x.drafts) site.limits.scope site.left site.inside (statement ∷ []) ws rest q (vec_len z.drafts)) (sym (ap (λ (y : Expressions). y.counted) f))
-      (subst (λ q. Goes x.expressions.counted (vec_len x.drafts) site.limits.scope site.left site.inside (statement ∷ []) ws rest e.counted q) (sym (pushed_long x z _ a)) g);
-  added = (record { kind = k; owner = site.owner; end = n }) ∷ [];
+  goes = subst (λ q. Goes x.expressions.counted (vec_len x.drafts) site.limits.scope site.limits.left site.inside (statement ∷ []) ws rest q (vec_len z.drafts)) (sym (ap (λ (y : Expressions). y.counted) f))
+      (subst (λ q. Goes x.expressions.counted (vec_len x.drafts) site.limits.scope site.limits.left site.inside (statement ∷ []) ws rest e.counted q) (sym (pushed_long x z _ a)) g);
+  added = (record { kind = k; owner = site.owner; end = vec_len x.drafts + 1 }) ∷ [];
   appended = a;
-  stand = subst (λ q. DraftsFor (vec_items z.expressions.ariths) (vec_items z.expressions.tests) ((record { kind = k; owner = site.owner; end = n }) ∷ []) q) (sym same)
-      (subst (λ (y : Expressions). DraftsFor (vec_items y.ariths) (vec_items y.tests) ((record { kind = k; owner = site.owner; end = n }) ∷ []) ((record { kind = p; owner = site.owner; end = vec_len x.drafts + 1 }) ∷ [])) (sym f)
-      (record { kind_is = h; owner_is = refl; end_is = l }, tt));
+  stand = subst (λ q. DraftsFor (vec_items z.expressions.ariths) (vec_items z.expressions.tests) ((record { kind = k; owner = site.owner; end = vec_len x.drafts + 1 }) ∷ []) q) (sym same)
+      (subst (λ (y : Expressions). DraftsFor (vec_items y.ariths) (vec_items y.tests) ((record { kind = k; owner = site.owner; end = vec_len x.drafts + 1 }) ∷ []) ((record { kind = p; owner = site.owner; end = vec_len x.drafts + 1 }) ∷ [])) (sym f)
+      (record { kind_is = h; owner_is = refl; end_is = refl }, tt));
   grown = grown_to x.expressions e z.expressions w f;
 }
 

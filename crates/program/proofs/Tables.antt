@@ -50,7 +50,7 @@ bounded empty ℓ a b n p q h = tt
 bounded (list s u) ℓ a b n p q h =
     bounded_append n (all_exits s ℓ (begins u (ℓ + size s) a) b) (all_exits u (ℓ + size s) a b) (bounded s ℓ (begins u (ℓ + size s) a) b n (begins_small u (ℓ + size s) a n (omega arith) p) q (omega arith)) (bounded u (ℓ + size s) a b n p q (omega arith))
 
-pub exits_small : (body : Part) (j : ℕ) → j < size body → ((exits_at body j).after ≤ size body) × ((exits_at body j).breaks ≤ size body)
+exits_small : (body : Part) (j : ℕ) → j < size body → ((exits_at body j).after ≤ size body) × ((exits_at body j).breaks ≤ size body)
 exits_small body j l =
     let n = size body in
     bounded_at n (all_exits body 0 n n) j (exits 0 0) (bounded body 0 n n n (omega arith) (omega arith) (omega arith)) (let e = exits_length body 0 n n in omega arith)
@@ -73,7 +73,7 @@ exits_same : (own : Exits) (x : PureExits) → own.after ≡ x.after → own.bre
 exits_same own x a b k label end = ap (λ y. linked k label end (exits y own.breaks)) a ∙ ap (λ y. linked k label end (exits x.after y)) b
 
 module _ (ns : List ArithNode) (ts : List TestNode) where
-  pub viewed : (k : Kind) (p : PureKind) (label end : ℕ) (own : Exits) → KindFor ns ts k p → view ns ts (made_of k label end own) ≡ linked p label end (exits own.after own.breaks)
+  viewed : (k : Kind) (p : PureKind) (label end : ℕ) (own : Exits) → KindFor ns ts k p → view ns ts (made_of k label end own) ≡ linked p label end (exits own.after own.breaks)
   viewed k (to_set x e) label end own h = ap (λ (q : Kind). view ns ts (made_of q label end own)) h.2 ∙ ap (λ y. assigns y (arith_at ns h.1) own.after) h.3 ∙ ap (λ y. assigns x y own.after) (arith_is ns h.1 e h.4)
   viewed k (to_sense x) label end own h = ap (λ (q : Kind). view ns ts (made_of q label end own)) h.1 ∙ ap (λ y. senses y own.after) h.2
   viewed k to_skip label end own h = ap (λ (q : Kind). view ns ts (made_of q label end own)) h
@@ -81,7 +81,7 @@ module _ (ns : List ArithNode) (ts : List TestNode) where
   viewed k (to_choose t m) label end own h = ap (λ (q : Kind). view ns ts (made_of q label end own)) h.1 ∙ ap (λ y. branches y (entry (label + 1) m own.after) (entry m end own.after)) (test_is ns ts h.0 t h.2)
   viewed k (to_repeat t) label end own h = ap (λ (q : Kind). view ns ts (made_of q label end own)) h.1 ∙ ap (λ y. branches y (entry (label + 1) end label) own.after) (test_is ns ts h.0 t h.2)
 
-  pub stands : (k : Kind) (p : PureKind) (label end : ℕ) (own : Exits) → KindFor ns ts k p → statement_stands ns ts (made_of k label end own) ≡ true
+  stands : (k : Kind) (p : PureKind) (label end : ℕ) (own : Exits) → KindFor ns ts k p → statement_stands ns ts (made_of k label end own) ≡ true
   stands k (to_set x e) label end own h = ap (λ (q : Kind). statement_stands ns ts (made_of q label end own)) h.2 ∙ arith_found ns h.1 e h.4
   stands k (to_sense x) label end own h = ap (λ (q : Kind). statement_stands ns ts (made_of q label end own)) h.1
   stands k to_skip label end own h = ap (λ (q : Kind). statement_stands ns ts (made_of q label end own)) h
@@ -134,22 +134,16 @@ module _ (ns : List ArithNode) (ts : List TestNode) where
   link_all ds ss label body h l v = let n = as_long ns ts ds body h in let t = length_table body 0 (size body) (size body) in (v.0 ∙ take_all label (table body 0 (size body) (size body)) (omega arith), v.1)
 
 -- ---- the table leads to labels up to the exit
+entry_small : (f e a n : ℕ) → (f < e → f ≤ n) → a ≤ n → entry f e a ≤ n
+entry_small f e a n p q = elim (cases_lt f e) [ inl y ↦ subst (λ z. cond z f a ≤ n) (sym (lt-ltb f e y)) (p y) | inr y ↦ subst (λ z. cond z f a ≤ n) (sym (le-ltb f e y)) q ]
+
 leads_linked : (k : PureKind) (label end n : ℕ) (x : PureExits) → x.after ≤ n → x.breaks ≤ n → label < n → end ≤ n → leads_to n (linked k label end x) ≡ true
 leads_linked (to_set v e) label end n x a b l h = le-leb x.after n a
 leads_linked (to_sense v) label end n x a b l h = le-leb x.after n a
 leads_linked to_skip label end n x a b l h = le-leb x.after n a
 leads_linked to_break label end n x a b l h = le-leb x.breaks n b
-leads_linked (to_choose t m) label end n x a b l h = and_from _ _ (le-leb (entry (label + 1) m x.after) n (entry_small (label + 1) m x.after n (omega arith) a)) (le-leb (entry m end x.after) n (entry_below m end x.after n h a))
-  where
-    entry_small : (f e a n : ℕ) → f ≤ n → a ≤ n → entry f e a ≤ n
-    entry_small f e a n p q = elim (cases_lt f e) [ inl y ↦ subst (λ z. cond z f a ≤ n) (sym (lt-ltb f e y)) p | inr y ↦ subst (λ z. cond z f a ≤ n) (sym (le-ltb f e y)) q ]
-
-    entry_below : (f e a n : ℕ) → e ≤ n → a ≤ n → entry f e a ≤ n
-    entry_below f e a n p q = elim (cases_lt f e) [ inl y ↦ subst (λ z. cond z f a ≤ n) (sym (lt-ltb f e y)) (omega arith) | inr y ↦ subst (λ z. cond z f a ≤ n) (sym (le-ltb f e y)) q ]
-leads_linked (to_repeat t) label end n x a b l h = and_from _ _ (le-leb (entry (label + 1) end label) n (entry_small (label + 1) end label n (omega arith) (omega arith))) (le-leb x.after n a)
-  where
-    entry_small : (f e a n : ℕ) → f ≤ n → a ≤ n → entry f e a ≤ n
-    entry_small f e a n p q = elim (cases_lt f e) [ inl y ↦ subst (λ z. cond z f a ≤ n) (sym (lt-ltb f e y)) p | inr y ↦ subst (λ z. cond z f a ≤ n) (sym (le-ltb f e y)) q ]
+leads_linked (to_choose t m) label end n x a b l h = and_from _ _ (le-leb (entry (label + 1) m x.after) n (entry_small (label + 1) m x.after n (λ y. omega arith) a)) (le-leb (entry m end x.after) n (entry_small m end x.after n (λ y. omega arith) a))
+leads_linked (to_repeat t) label end n x a b l h = and_from _ _ (le-leb (entry (label + 1) end label) n (entry_small (label + 1) end label n (λ y. omega arith) (omega arith))) (le-leb x.after n a)
 
 lead_all : (n : ℕ) (is : List Instruction) → ((j : ℕ) → j < length is → leads_to n (get_or is j (goes 0)) ≡ true) → lead_to n is ≡ true
 lead_all n [] h = refl

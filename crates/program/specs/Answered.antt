@@ -51,7 +51,11 @@ pub record Faulty (bs : List ℕ) (f : Refusal) : Type 0 where
 abbrev pub TooLong : List ℕ → Refusal → Type 0
 TooLong bs f = (4096 < length bs) × (reply f ≡ (2, 3, 4096))
 
+-- a refusal of a text
+abbrev pub Refused : List ℕ → Refusal → Type 0
+Refused bs f = TooLong bs f ⊎ Faulty bs f
+
 -- what is answered to a text
 abbrev pub Answered : List ℕ → Result Program Refusal → Type 0
 Answered bs (Ok p) = Faultless bs p
-Answered bs (Err f) = TooLong bs f ⊎ Faulty bs f
+Answered bs (Err f) = Refused bs f

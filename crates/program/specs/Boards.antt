@@ -1,7 +1,16 @@
--- The drafts of statements, and the pure drafts that they stand for. Assumes nothing.
+-- The drafts of a board, and the faults that its words may have. Assumes nothing.
 use Rattle.std.specs.Prelude.{◌≡◌, ℕ, [], ◌∷◌, ◌++◌, vec_items, slice_set}
+use Rattle.model.specs.declared.refusal.Cause.{Cause}
+use Rattle.text.specs.declared.reading.Fault.{Fault}
+use Rattle.text.specs.declared.word.Word.{Word}
 use Rattle.program.specs.declared.draft.Draft.{Draft}
 use Rattle.program.specs.declared.board.Board.{Board}
+
+-- the word w has the fault f, of cause c, since P holds
+pub record Charged (P : Type 0) (c : Cause) (w : Word) (f : Fault) : Type 0 where
+  pub why : P
+  pub cause_is : f.cause ≡ c
+  pub place_is : f.place ≡ w.place
 
 -- one more draft
 pub record Pushed (d : Draft) (x y : Board) : Type 0 where

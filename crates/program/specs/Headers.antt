@@ -1,19 +1,17 @@
 -- What the readers of declarations answer. Assumes nothing.
-use Rattle.std.specs.Prelude.{◌≡◌, ℕ, ◌<◌, ◌≤◌, Bool, true, false, ◌⊎◌, List, [], ◌∷◌, ◌++◌, map, length, ℤ, pos, negsuc, ◌≤ℤ◌, Some, None, Option, slice_index_or}
+use Rattle.std.specs.Prelude.{◌≡◌, ℕ, ◌<◌, ◌≤◌, false, ◌⊎◌, List, [], ◌∷◌, ◌++◌, map, ℤ, pos, negsuc, ◌≤ℤ◌, is_some, None, Option}
 use Rattle.text.specs.Derivations.{Free}
 use Rattle.grammar.specs.Answers.{fault}
+use Rattle.model.specs.declared.refusal.Cause.TheVariants.{Number as Numbered}
 use Rattle.text.specs.declared.reading.Fault.{Fault}
 use Rattle.text.specs.declared.word.Scope.TheVariants.{Declared}
-use Rattle.text.specs.declared.word.Token.TheVariants.{Reg, Current}
+use Rattle.text.specs.declared.word.Token.TheVariants.{Number, Reg, Current}
 use Rattle.text.specs.declared.word.Word.{Word}
 use Rattle.text.specs.Table.{Item, bound, statements, program_start}
 use Rattle.text.specs.declared.word.Register.{Register}
 use Rattle.text.specs.Words.{register_index}
 use Rattle.text.specs.Charges.{Memo, open_in, program_memo}
-use Rattle.text.specs.Reading.{reads, place_of}
-use Rattle.traces.specs.declared.range.Range.{Range}
-use Rattle.traces.specs.Programs.{range}
-use Rattle.traces.specs.Codes.{settings}
+use Rattle.text.specs.Reading.{reads, place_of, FaultAt, Unlike}
 use Rattle.syntax.specs.Phrases.{Bound, Bounds, Declares, Ranged, undeclared}
 use Rattle.syntax.proofs.Forth.{from_register}
 use Rattle.program.specs.declared.header.Header.{Header}
@@ -29,15 +27,35 @@ pub record BoundRead (ws : List Word) (z : ℤ) (rest : List Word) : Type 0 wher
   pub ceiling : z ≤ℤ pos 1000
   pub goes : (m : Memo) (k : List Item) → m.negative ≡ false → open_in k ≤ 16 → reads ws m (bound ∷ k) ≡ reads rest (shifted m z) k
 
+-- a fault where a number of a declaration must stand
 pub record BoundStopped (end : ℕ) (ws : List Word) (f : Fault) : Type 0 where
   pub words : List Word
   pub place_is : f.place ≡ place_of end words
   pub stops : (m : Memo) (k : List Item) → m.negative ≡ false → open_in k ≤ 16 → reads ws m (bound ∷ k) ≡ fault f.cause words
 
--- which registers are declared
-abbrev pub flag : Option Range → Bool
-flag None = false
-flag (Some r) = true
+-- a number without a sign before it
+pub record NumberRead (ws : List Word) (z : ℤ) (rest : List Word) : Type 0 where
+  pub word : Word
+  pub number : ℕ
+  pub words : ws ≡ word ∷ rest
+  pub token : word.token ≡ Number number
+  pub few : number ≤ 1000
+  pub value : z ≡ pos number
+
+-- a number that is too large
+pub record NumberLarge (ws : List Word) (f : Fault) : Type 0 where
+  pub word : Word
+  pub number : ℕ
+  pub rest : List Word
+  pub words : ws ≡ word ∷ rest
+  pub token : word.token ≡ Number number
+  pub many : 1000 < number
+  pub cause_is : f.cause ≡ Numbered
+  pub place_is : f.place ≡ word.place
+
+-- a number that is too large, or no number
+abbrev pub NumberStopped : ℕ → List Word → Fault → Type 0
+NumberStopped end ws f = NumberLarge ws f ⊎ (FaultAt end ws f × Unlike (Number 0) ws)
 
 -- nothing is declared
 pub record Blank (h : Header) : Type 0 where
@@ -52,12 +70,7 @@ pub record Heads (h : Header) (ds : List (Option Bounds)) (m : Memo) : Type 0 wh
   pub read : m.parts ≡ 0
   pub plain : m.negative ≡ false
   pub settings_are : m.settings ≡ h.settings
-  pub scoped : m.scope ≡ Declared (map flag h.ranges)
-  pub few : h.settings ≤ 65536
-  pub product : h.settings ≡ settings (map range h.ranges)
-  pub next_small : h.next ≤ 6
-  pub fresh : (j : ℕ) → h.next ≤ j → slice_index_or h.ranges j None ≡ None
-  pub six : length h.ranges ≡ 6
+  pub scoped : m.scope ≡ Declared (map is_some h.ranges)
 
 -- declarations have been read, from the text's first word
 pub record HeaderRead (ws : List Word) (h : Header) (mid : List Word) : Type 0 where
@@ -71,6 +84,10 @@ pub record HeaderStopped (end : ℕ) (ws : List Word) (f : Fault) : Type 0 where
   pub words : List Word
   pub place_is : f.place ≡ place_of end words
   pub stops : reads ws program_memo program_start ≡ fault f.cause words
+
+-- P holds of the words of each program that begins with the header h, and goes on with `reg` and the words us
+abbrev pub Onward : Header → List Word → (List Word → Type 0) → Type 0
+Onward h us P = (ws : List Word) (w : Word) → w.token ≡ Reg → h.next < 6 → HeaderRead ws h (w ∷ us) → P ws
 
 -- the letter of a register from the ith on, and the words behind it; or no such letter
 abbrev pub Lettered : ℕ → List Word → Register × List Word → Type 0

@@ -1,4 +1,5 @@
 pub mod Boards
+pub mod Starts
 pub mod Places
 pub mod Outcomes
 pub mod Lists

@@ -15,12 +15,12 @@ abbrev pub entered_at : ℕ → ℕ → ℕ → ℕ
 entered_at f e a = cond (nat_lt f e) f a
 
 abbrev pub enclosed_kind : Kind → ℕ → ℕ → Exits → ℕ → Around
-enclosed_kind (Set r i) end owner own label = record { limit = end; after = own.after; breaks = own.breaks }
-enclosed_kind (Sense r) end owner own label = record { limit = end; after = own.after; breaks = own.breaks }
-enclosed_kind Skip end owner own label = record { limit = end; after = own.after; breaks = own.breaks }
-enclosed_kind Break end owner own label = record { limit = end; after = own.after; breaks = own.breaks }
-enclosed_kind (Choose i m) end owner own label = record { limit = cond (nat_lt label m) m end; after = own.after; breaks = own.breaks }
-enclosed_kind (Repeat i) end owner own label = record { limit = end; after = owner; breaks = own.after }
+enclosed_kind (Set r i) end owner own label = record { limit = end; exits = own }
+enclosed_kind (Sense r) end owner own label = record { limit = end; exits = own }
+enclosed_kind Skip end owner own label = record { limit = end; exits = own }
+enclosed_kind Break end owner own label = record { limit = end; exits = own }
+enclosed_kind (Choose i m) end owner own label = record { limit = cond (nat_lt label m) m end; exits = own }
+enclosed_kind (Repeat i) end owner own label = record { limit = end; exits = record { after = owner; breaks = own.after } }
 
 abbrev pub enclosed_by : Draft → ℕ → Exits → ℕ → Around
 enclosed_by d owner own label = enclosed_kind d.kind d.end owner own label
@@ -39,12 +39,19 @@ exits_at body j = slice_index_or (all_exits body 0 (size body) (size body)) j (e
 abbrev pub around_at : Part → ℕ → PureAround
 around_at body j = around_of (draft_at body) (exits_at body) (size body) (draft_at body j).owner j
 
+-- the exits, and the part that a statement stands in, are those of the tree
+abbrev pub SameExits : Exits → PureExits → Type 0
+SameExits r x = (r.after ≡ x.after) × (r.breaks ≡ x.breaks)
+
+abbrev pub SameAround : Around → PureAround → Type 0
+SameAround r x = (r.limit ≡ x.limit) × (r.exits.after ≡ x.after) × (r.exits.breaks ≡ x.breaks)
+
 -- the exits of the statement at a label are those of the list of statements
 abbrev pub ExitsAt : List Draft → ℕ → Exits → Type 0
-ExitsAt ds label r = (ns : List ArithNode) (ts : List TestNode) (body : Part) → DraftsFor ns ts ds (drafts body 0 None) → (r.after ≡ (exits_at body label).after) × (r.breaks ≡ (exits_at body label).breaks)
+ExitsAt ds label r = (ns : List ArithNode) (ts : List TestNode) (body : Part) → DraftsFor ns ts ds (drafts body 0 None) → SameExits r (exits_at body label)
 
 abbrev pub AroundAt : List Draft → ℕ → Around → Type 0
-AroundAt ds label r = (ns : List ArithNode) (ts : List TestNode) (body : Part) → DraftsFor ns ts ds (drafts body 0 None) → (r.limit ≡ (around_at body label).limit) × (r.after ≡ (around_at body label).after) × (r.breaks ≡ (around_at body label).breaks)
+AroundAt ds label r = (ns : List ArithNode) (ts : List TestNode) (body : Part) → DraftsFor ns ts ds (drafts body 0 None) → SameAround r (around_at body label)
 
 -- the owner of the draft at a label
 abbrev pub owner_of : List Draft → ℕ → Option ℕ

@@ -1,14 +1,16 @@
 -- What the reader of a list of statements answers. Assumes nothing.
-use Rattle.std.specs.Prelude.{◌≡◌, true, false, ◌⊎◌, List, [], ◌∷◌, ◌++◌, vec_items, vec_len}
+use Rattle.std.specs.Prelude.{◌≡◌, ℕ, ◌<◌, true, false, ◌⊎◌, List, [], ◌∷◌, ◌++◌, vec_items, vec_len}
 use Rattle.grammar.specs.Answers.{fault}
 use Rattle.text.specs.declared.reading.Fault.{Fault}
 use Rattle.text.specs.declared.word.Token.TheVariants.{CloseBrace, Else}
 use Rattle.text.specs.declared.word.Word.{Word}
 use Rattle.text.specs.Words.{at}
 use Rattle.text.specs.Derivations.{Free}
-use Rattle.text.specs.Table.{Item, statement}
+use Rattle.text.specs.Table.{Item, statement, guard}
 use Rattle.text.specs.Charges.{Memo, counting, with_parts}
-use Rattle.text.specs.Reading.{reads, place_of}
+use Rattle.text.specs.Outcomes.{TestRead}
+use Rattle.text.specs.Reading.{reads, place_of, Deeper}
+use Rattle.text.specs.declared.reading.Limits.{Limits}
 use Rattle.traces.specs.Programs.{Part, empty}
 use Rattle.traces.proofs.Links.{drafts}
 use Rattle.syntax.specs.Phrases.{States, one, behind}
@@ -16,7 +18,7 @@ use Rattle.program.specs.declared.draft.Draft.{Draft}
 use Rattle.program.specs.declared.board.Board.{Board}
 use Rattle.program.specs.declared.site.Site.{Site}
 use Rattle.program.specs.Places.{Place}
-use Rattle.program.specs.Outcomes.{DraftsFor, Grown, PhraseRead, PhraseStopped}
+use Rattle.program.specs.Outcomes.{DraftsFor, Grown, PhraseRead, PhraseStopped, Guarded}
 
 -- what is owed goes on with statements wherever the next word closes no block
 abbrev pub Opens : List Item → Type 0
@@ -34,7 +36,7 @@ Begun (w ∷ ws) = at CloseBrace w ≡ false
 
 -- the site of a board
 abbrev pub PlaceOn : Site → Board → Memo → List Item → Type 0
-PlaceOn site x m k = Place x.expressions.counted (vec_len x.drafts) site.limits.scope site.left site.inside m k
+PlaceOn site x m k = Place x.expressions.counted (vec_len x.drafts) site.limits.scope site.limits.left site.inside m k
 
 -- statements have been read behind the list s: from ws to rest, and their drafts stand on the board y, which was x
 pub record ListRead (site : Site) (ws : List Word) (x y : Board) (rest : List Word) : Type 0 where
@@ -61,3 +63,12 @@ ElseRead site ws x y rest = (Free (Else ∷ []) ws × (rest ≡ ws) × (y ≡ x)
 
 abbrev pub ElseStopped : Site → List Word → Board → Fault → Type 0
 ElseStopped site ws x f = (w : Word) × (vs : List Word) × (ws ≡ w ∷ vs) × (w.token ≡ Else) × PhraseStopped (statement ∷ []) site vs x f
+
+-- an if or while has been opened behind its first word: its test is read, a draft stands in its place, and so much less may be opened in it
+pub record Entered (site : Site) (ws : List Word) (x b : Board) (label i : ℕ) (inner : Limits) (mid : List Word) : Type 0 where
+  pub test : TestRead (guard ∷ []) Guarded site.limits.scope inner.left ws x.expressions b.expressions i mid
+  pub draft : Draft
+  pub pushed : vec_items b.drafts ≡ vec_items x.drafts ++ draft ∷ []
+  pub label_is : label ≡ vec_len x.drafts
+  pub few : vec_len x.drafts < 63
+  pub deeper : Deeper site.limits inner

@@ -1,5 +1,6 @@
 -- What the readers of statements answer. Assumes nothing.
-use Rattle.std.specs.Prelude.{◌≡◌, ℕ, ◌⊎◌, List, [], ◌∷◌, ◌++◌, vec_items, vec_len}
+use Rattle.std.specs.Prelude.{◌≡◌, ℕ, ◌⊎◌, List, [], ◌∷◌, ◌++◌, Result, MatchResult, vec_items, vec_len}
+use Rattle.std.proofs.Common.{Bor}
 use Rattle.text.specs.declared.expressions.Expressions.{Expressions}
 use Rattle.text.specs.declared.node.ArithNode.{ArithNode}
 use Rattle.text.specs.declared.node.TestNode.{TestNode}
@@ -11,7 +12,8 @@ use Rattle.text.specs.declared.word.Word.{Word}
 use Rattle.text.specs.Expressions.{Test}
 use Rattle.text.specs.Nodes.{ArithAt, TestAt}
 use Rattle.text.specs.Words.{register_index}
-use Rattle.text.specs.Table.{Item}
+use Rattle.text.specs.Table.{Item, statement}
+use Rattle.syntax.specs.Phrases.{States, one}
 use Rattle.text.specs.Reading.{place_of}
 use Rattle.text.specs.Derivations.{Condition}
 use Rattle.traces.specs.Programs.{Part}
@@ -55,7 +57,7 @@ pub record Grown (x y : Expressions) : Type 0 where
 pub record PhraseRead (js : List Item) (D : List Word → Part → List Word → Type 0) (site : Site) (ws : List Word) (x y : Board) (rest : List Word) : Type 0 where
   pub tree : Part
   pub derives : D ws tree rest
-  pub goes : Goes x.expressions.counted (vec_len x.drafts) site.limits.scope site.left site.inside js ws rest y.expressions.counted (vec_len y.drafts)
+  pub goes : Goes x.expressions.counted (vec_len x.drafts) site.limits.scope site.limits.left site.inside js ws rest y.expressions.counted (vec_len y.drafts)
   pub added : List Draft
   pub appended : vec_items y.drafts ≡ vec_items x.drafts ++ added
   pub stand : DraftsFor (vec_items y.expressions.ariths) (vec_items y.expressions.tests) added (drafts tree (vec_len x.drafts) site.owner)
@@ -65,7 +67,11 @@ pub record PhraseRead (js : List Item) (D : List Word → Part → List Word →
 pub record PhraseStopped (js : List Item) (site : Site) (ws : List Word) (x : Board) (f : Fault) : Type 0 where
   pub words : List Word
   pub place_is : f.place ≡ place_of site.limits.end words
-  pub stops : Stops x.expressions.counted (vec_len x.drafts) site.limits.scope site.left site.inside js ws f.cause words
+  pub stops : Stops x.expressions.counted (vec_len x.drafts) site.limits.scope site.limits.left site.inside js ws f.cause words
+
+-- what the reader of a statement answers: the words behind it, or the fault
+abbrev pub StatementAnswer : Site → List Word → Board → Board → Result (Bor (List Word)) Fault → Type 0
+StatementAnswer site ws x y answer = MatchResult answer (λ r. PhraseRead (statement ∷ []) (States one) site ws x y r.now) (PhraseStopped (statement ∷ []) site ws x)
 
 -- the token is the register's letter, small or capital
 abbrev pub Letter : Token → Register → Type 0

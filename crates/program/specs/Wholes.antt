@@ -1,5 +1,5 @@
 -- What the reader of a whole program answers, and the program that is made of it. Assumes nothing.
-use Rattle.std.specs.Prelude.{◌≡◌, ◌≤◌, List, map, length, None, vec_items, Option}
+use Rattle.std.specs.Prelude.{◌≡◌, List, map, None, vec_items, Option}
 use Rattle.grammar.specs.Answers.{good as faultless}
 use Rattle.text.specs.declared.word.Word.{Word}
 use Rattle.text.specs.Table.{program_start}
@@ -7,7 +7,6 @@ use Rattle.text.specs.Charges.{Memo, program_memo}
 use Rattle.text.specs.Reading.{reads}
 use Rattle.traces.specs.Programs.{Part, size, range}
 use Rattle.traces.specs.Tables.{table}
-use Rattle.traces.specs.Codes.{settings}
 use Rattle.traces.proofs.Links.{drafts}
 use Rattle.machine.specs.declared.program.Program.{Program}
 use Rattle.machine.specs.Cells.{instructions}
@@ -20,12 +19,6 @@ use Rattle.program.specs.Outcomes.{DraftsFor}
 abbrev pub Stand : Board → Part → Type 0
 Stand y body = DraftsFor (vec_items y.expressions.ariths) (vec_items y.expressions.tests) (vec_items y.drafts) (drafts body 0 None)
 
--- the six ranges have at most 65,536 settings
-pub record Few (h : Header) : Type 0 where
-  pub few : h.settings ≤ 65536
-  pub product : h.settings ≡ settings (map range h.ranges)
-  pub six : length h.ranges ≡ 6
-
 -- a whole program has been read: the words derive it, no word is charged, and its drafts stand on the board
 pub record WholeRead (ws : List Word) (h : Header) (y : Board) : Type 0 where
   pub bounds : List (Option Bounds)
@@ -35,7 +28,6 @@ pub record WholeRead (ws : List Word) (h : Header) (y : Board) : Type 0 where
   pub memo : Memo
   pub good : reads ws program_memo program_start ≡ faultless memo
   pub stand : Stand y body
-  pub few : Few h
 
 -- the program that is made of what has been read has the declared ranges and the table of the body
 pub record Assembled (h : Header) (y : Board) (p : Program) : Type 0 where

@@ -6,6 +6,7 @@ use text::Expressions;
 
 #[derive(Drop)]
 pub struct Board {
+    // Drafts lie in a vector that was reserved, and own each other by label: reading may not allocate.
     pub drafts: Vec<Draft>,
     pub expressions: Expressions,
     ghost room: { 63 ≤ vec_capacity drafts },

@@ -1,47 +1,33 @@
 // Reading the numbers of a declaration.
-ghost use Rattle.std.specs.Prelude.{◌≡◌, MatchResult};
-ghost use Rattle.program.specs.Headers.{BoundRead, BoundStopped};
+ghost use Rattle.std.specs.Prelude.{MatchResult};
+ghost use Rattle.program.specs.Headers.{BoundRead, BoundStopped, NumberRead, NumberStopped};
 
 use model::Cause;
-use text::{Fault, Token, Word, first, unexpected};
+use text::{Fault, LARGEST_NUMBER, Token, Word, next, sign, unexpected};
 
-// The largest number of a declaration, with a `-` before it or not.
-const LARGEST: u16 = 1000;
+// The text's length stands beside the words, as in every reader of words: a pair of both would be taken apart at each call.
+
+// A number without a sign before it.
+fn number(words: &[Word], end: usize) -> Result<(i16, &[Word]), Fault>
+    ensures { MatchResult result (λ y. NumberRead words.now y.0 y.1.now) (λ f. NumberStopped end words.now f) }
+{
+    let (word, rest) = next(words, end)?;
+    match word.token {
+        Token::Number(number) if number <= LARGEST_NUMBER => Ok((number as i16, rest)),
+        Token::Number(_) => Err(word.fault(Cause::Number)),
+        _ => Err(unexpected(words, end)),
+    }
+}
 
 // A number, or a `-` and a number.
 pub(crate) fn bound(words: &[Word], end: usize) -> Result<(i16, &[Word]), Fault>
     ensures { MatchResult result (λ y. BoundRead words.now y.0 y.1.now) (λ f. BoundStopped end words.now f) }
 {
-    let Some((word, rest)) = first(words) else {
-        return Err(unexpected(words, end));
-    };
-    match word.token {
-        Token::Number(number) => {
-            if number > LARGEST {
-                return Err(Fault {
-                    cause: Cause::Number,
-                    place: word.place,
-                });
-            }
-            Ok((number as i16, rest))
+    match sign(words, Token::Minus) {
+        Some((_, digits)) => {
+            let (number, rest) = number(digits, end)?;
+            Ok((-number, rest))
         }
-        Token::Minus => {
-            let Some((digits, behind)) = first(rest) else {
-                return Err(unexpected(rest, end));
-            };
-            match digits.token {
-                Token::Number(number) => {
-                    if number > LARGEST {
-                        return Err(Fault {
-                            cause: Cause::Number,
-                            place: digits.place,
-                        });
-                    }
-                    Ok((-(number as i16), behind))
-                }
-                _ => Err(unexpected(rest, end)),
-            }
-        }
-        _ => Err(unexpected(words, end)),
+        None => number(words, end),
     }
 }

@@ -1,67 +1,43 @@
 // Reading declarations.
-ghost use Rattle.std.specs.Prelude.{◌≡◌, ◌<◌, List, ◌∷◌, MatchOption, MatchResult};
-ghost use Rattle.text.specs.Reading.{Skipped, Unlike};
-ghost use Rattle.program.specs.Headers.{HeaderRead, HeaderStopped, Lettered, Unlettered, NoReg};
+ghost use Rattle.std.specs.Prelude.{◌≡◌, ◌<◌, ◌∷◌, MatchOption, MatchResult};
+ghost use Rattle.text.specs.Reading.{FaultAt};
+ghost use Rattle.program.specs.Headers.{HeaderRead, HeaderStopped, Onward, Lettered, Unlettered, NoReg};
 
 use crate::bounds::bound;
 use crate::header::Header;
 use model::Cause;
-use text::{Fault, Register, Token, Word, first, unexpected};
+use text::{Fault, Register, Token, Word, expect, next, sign, unexpected};
 use traces::Range;
 
-// The letter of a register from a given one on, and the words behind it.
-fn letter(words: &[Word], next: usize) -> Option<(Register, &[Word])>
-    ensures { MatchOption result (Unlettered next words.now) (λ x. Lettered next words.now (x.0, x.1.now)) }
-{
-    let (word, rest) = first(words)?;
-    match word.token {
-        Token::Current(register) => {
-            if register.index() < next {
-                return None;
-            }
-            Some((register, rest))
-        }
-        _ => None,
-    }
-}
+// The number of registers.
+const REGISTERS: usize = 6;
 
-// The `;` of a declaration, and the words behind it.
-fn semicolon(words: &[Word]) -> Option<(Word, &[Word])>
-    ensures { MatchOption result (Unlike Token.Semicolon words.now) (λ x. (words.now ≡ x.0 ∷ x.1.now) × (x.0.token ≡ Token.Semicolon)) }
+// The letter of a register from a given one on, which must stand here, and the words behind it.
+fn letter(words: &[Word], least: usize, end: usize) -> Result<(Register, &[Word]), Fault>
+    ensures { MatchResult result (λ x. Lettered least words.now (x.0, x.1.now)) (λ f. FaultAt end words.now f × Unlettered least words.now) }
 {
-    let (word, rest) = first(words)?;
+    let (word, rest) = next(words, end)?;
     match word.token {
-        Token::Semicolon => Some((word, rest)),
-        _ => None,
+        Token::Current(register) if register.index() >= least => Ok((register, rest)),
+        _ => Err(unexpected(words, end)),
     }
 }
 
 // One declaration, behind its `reg`.
 fn declaration<'a>(words: &'a [Word], header: &mut Header, end: usize) -> Result<&'a [Word], Fault>
-    ensures { MatchResult result (λ y. ((ws : List Word) (w : Word) → w.token ≡ Token.Reg → header.old.next < 6 → HeaderRead ws header.old (w ∷ words.now) → HeaderRead ws header.new y.now) × (header.old.next < header.new.next)) (λ f. (ws : List Word) (w : Word) → w.token ≡ Token.Reg → header.old.next < 6 → HeaderRead ws header.old (w ∷ words.now) → HeaderStopped end ws f) }
+    ensures { MatchResult result (λ y. Onward header.old words.now (λ ws. HeaderRead ws header.new y.now) × (header.old.next < header.new.next)) (λ f. Onward header.old words.now (λ ws. HeaderStopped end ws f)) }
 {
-    let Some((register, numbers)) = letter(words, header.next) else {
-        return Err(unexpected(words, end));
-    };
+    let (register, numbers) = letter(words, header.next, end)?;
     let (low, rest1) = bound(numbers, end)?;
     let (high, rest2) = bound(rest1, end)?;
     let (from, rest3) = bound(rest2, end)?;
     let (to, rest4) = bound(rest3, end)?;
-    let Some((sign, behind)) = semicolon(rest4) else {
-        return Err(unexpected(rest4, end));
-    };
+    let (mark, behind) = expect(rest4, Token::Semicolon, end)?;
+    // Not by `ok_or`: what `new` says of none is then said of no fault.
     let Some(range) = Range::new(low, high, from, to) else {
-        return Err(Fault {
-            cause: Cause::Range,
-            place: sign.place,
-        });
+        return Err(mark.fault(Cause::Range));
     };
-    if !header.declare(register, range) {
-        return Err(Fault {
-            cause: Cause::Starts,
-            place: sign.place,
-        });
-    }
+    header.declare(register, range, mark)?;
     Ok(behind)
 }
 
@@ -72,11 +48,7 @@ fn declares(words: &[Word], next: usize) -> Option<(Word, &[Word])>
     if next >= REGISTERS {
         return None;
     }
-    let (word, rest) = first(words)?;
-    match word.token {
-        Token::Reg => Some((word, rest)),
-        _ => None,
-    }
+    sign(words, Token::Reg)
 }
 
 // The declarations of a program.
@@ -94,6 +66,3 @@ pub(crate) fn declarations<'a>(
     }
     Ok(rest)
 }
-
-// The number of registers.
-const REGISTERS: usize = 6;

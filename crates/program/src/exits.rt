@@ -11,12 +11,11 @@ pub struct Exits {
     pub breaks: usize,
 }
 
-// The part that a statement stands in: the label behind it, the label after it, and the label that its breaks go to.
+// The part that a statement stands in: the label behind it, and the part's own exits.
 #[derive(Clone, Copy)]
 pub struct Around {
     pub limit: usize,
-    pub after: usize,
-    pub breaks: usize,
+    pub exits: Exits,
 }
 
 // The label where a part with the labels from first to end begins, or the label after it where it is empty.
@@ -31,39 +30,40 @@ fn enclosed(draft: Draft, owner: usize, own: Exits, label: usize) -> Around
     ensures { result ≡ enclosed_by draft owner own label }
 {
     match draft.kind {
-        Kind::Choose { middle, .. } => {
-            let limit = if label < middle { middle } else { draft.end };
-            Around {
-                limit,
-                after: own.after,
-                breaks: own.breaks,
-            }
-        }
+        Kind::Choose { middle, .. } => Around {
+            limit: if label < middle { middle } else { draft.end },
+            exits: own,
+        },
         Kind::Repeat { .. } => Around {
             limit: draft.end,
-            after: owner,
-            breaks: own.after,
+            exits: Exits {
+                after: owner,
+                breaks: own.after,
+            },
         },
         Kind::Set { .. } | Kind::Sense { .. } | Kind::Skip | Kind::Break => Around {
             limit: draft.end,
-            after: own.after,
-            breaks: own.breaks,
+            exits: own,
         },
     }
 }
 
 // The part that a statement stands in: the whole program where it is a part of no other.
+// That drafts are a tree's stays a clause: a type for it would hold the lent drafts alone, made in `link` only to be taken apart here.
 #[cycle(exits_of_part_around)]
 fn part_around(drafts: &[Draft], owner: Option<usize>, label: usize) -> Around
     requires { (label < length drafts.now) × ((OwnerAt drafts.now label owner) × (Drafted drafts.now)) }
     ensures { AroundAt drafts.now label result }
 {
     match owner {
-        None => Around {
-            limit: drafts.len(),
-            after: drafts.len(),
-            breaks: drafts.len(),
-        },
+        None => {
+            let limit = drafts.len();
+            let exits = Exits {
+                after: limit,
+                breaks: limit,
+            };
+            Around { limit, exits }
+        }
         Some(outer) => enclosed(drafts[outer], outer, exits_of(drafts, outer), label),
     }
 }
@@ -76,7 +76,7 @@ pub(crate) fn exits_of(drafts: &[Draft], label: usize) -> Exits
 {
     let part = part_around(drafts, drafts[label].owner, label);
     Exits {
-        after: entry(drafts[label].end, part.limit, part.after),
-        breaks: part.breaks,
+        after: entry(drafts[label].end, part.limit, part.exits.after),
+        breaks: part.exits.breaks,
     }
 }

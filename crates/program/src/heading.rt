@@ -1,7 +1,7 @@
 // What has been declared, before the first word and behind the last declaration.
-ghost use Rattle.std.specs.Prelude.{◌≡◌, map, length};
+ghost use Rattle.std.specs.Prelude.{◌≡◌, map, is_some};
 ghost use Rattle.traces.specs.Programs.{range as range_of};
-ghost use Rattle.program.specs.Headers.{flag as flag_of, Blank};
+ghost use Rattle.program.specs.Headers.{Blank};
 
 use crate::header::Header;
 use traces::Range;
@@ -20,30 +20,16 @@ impl Header {
 
     // Which registers are declared.
     pub(crate) fn flags(&self) -> [bool; 6]
-        requires { length self.now.ranges ≡ 6 }
-        ensures { result ≡ map flag_of self.now.ranges }
+        ensures { result ≡ map is_some self.now.ranges }
     {
-        let [a, b, c, d, e, f] = self.ranges;
-        [flag(a), flag(b), flag(c), flag(d), flag(e), flag(f)]
+        self.ranges.map(|range| range.is_some())
     }
 
     // The ranges of all six registers: an undeclared one has the value 0 only.
     pub(crate) fn full(&self) -> [Range; 6]
-        requires { length self.now.ranges ≡ 6 }
         ensures { result ≡ map range_of self.now.ranges }
     {
-        let [a, b, c, d, e, f] = self.ranges;
-        [range(a), range(b), range(c), range(d), range(e), range(f)]
-    }
-}
-
-// Whether a register is declared.
-fn flag(declared: Option<Range>) -> bool
-    ensures { result ≡ flag_of declared }
-{
-    match declared {
-        Some(_) => true,
-        None => false,
+        self.ranges.map(range)
     }
 }
 
@@ -51,13 +37,10 @@ fn flag(declared: Option<Range>) -> bool
 fn range(declared: Option<Range>) -> Range
     ensures { result ≡ range_of declared }
 {
-    if let Some(range) = declared {
-        return range;
-    }
-    Range {
+    declared.unwrap_or(Range {
         low: 0,
         high: 0,
         from: 0,
         to: 0,
-    }
+    })
 }

@@ -13,11 +13,16 @@ mod header;
 mod heading;
 mod leaves;
 mod link;
+mod opening;
 mod phrases;
 mod reading;
 mod reserve;
 mod room;
+mod signs;
 mod site;
+mod start;
+#[cfg(test)]
+mod tests;
 mod whole;
 
 pub use reading::read;

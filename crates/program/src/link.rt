@@ -46,7 +46,7 @@ pub(crate) fn link(drafts: &[Draft], statements: &mut Vec<Statement>)
     requires { (Drafted drafts.now) × ((length drafts.now ≤ 63) × ((63 ≤ vec_capacity statements.old) × (statements.old.items ≡ []))) }
     ensures { LinkedSo drafts.now statements.new.items }
 {
-    for label in 0..drafts.len() {
-        statements.push_reserved(instruct(drafts[label], label, exits_of(drafts, label)));
+    for (label, draft) in drafts.iter().enumerate() {
+        statements.push_reserved(instruct(*draft, label, exits_of(drafts, label)));
     }
 }

@@ -1,45 +1,33 @@
 // Reading a program from its text.
-ghost use Rattle.program.specs.Answered.{Answered};
+ghost use Rattle.std.specs.Prelude.{MatchResult};
+ghost use Rattle.program.specs.Answered.{Answered, Faultless, Refused};
 
 use crate::assembly::assemble;
-use crate::board::Board;
 use crate::header::Header;
 use crate::room::Room;
 use crate::whole::whole;
 use machine::Program;
-use model::{Cause, Layer, Refusal};
+use model::{Layer, Refusal};
+use text::Fault;
 
-// The most bytes of a text.
-const LONGEST: usize = 4096;
-
-// The program of a text, in memory that was reserved before; or the text's first fault. Nothing is allocated.
-pub fn read(room: Room, text: &[u8]) -> Result<Program, Refusal>
-    ensures { Answered text.now result }
+// The program of a text, in memory that was reserved before; or the text's first fault.
+fn program(room: Room, text: &[u8]) -> Result<Program, Fault>
+    ensures { MatchResult result (Faultless text.now) (λ f. Refused text.now (record { layer = Layer.Program; cause = f.cause; place = f.place })) }
 {
     let Room {
         mut words,
-        drafts,
+        mut board,
         statements,
-        expressions,
     } = room;
-    if !words.cut(text) {
-        return Err(Refusal {
-            layer: Layer::Program,
-            cause: Cause::Length,
-            place: LONGEST,
-        });
-    }
+    words.cut(text)?;
     let mut header = Header::new();
-    let mut board = Board {
-        drafts,
-        expressions,
-    };
-    match whole(words.list(), text.len(), &mut header, &mut board) {
-        Ok(()) => Ok(assemble(&header, board, statements)),
-        Err(fault) => Err(Refusal {
-            layer: Layer::Program,
-            cause: fault.cause,
-            place: fault.place,
-        }),
-    }
+    whole(words.list(), text.len(), &mut header, &mut board)?;
+    Ok(assemble(&header, board, statements))
+}
+
+// The program of a text, in memory that was reserved before; or the refusal with the text's first fault. Nothing is allocated.
+pub fn read(room: Room, text: &[u8]) -> Result<Program, Refusal>
+    ensures { Answered text.now result }
+{
+    program(room, text).map_err(|fault| fault.refused(Layer::Program))
 }

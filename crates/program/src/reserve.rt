@@ -1,6 +1,7 @@
 // Reserving the room for a program.
 ghost use Rattle.std.specs.Prelude.{◌≡◌, [], IfOk};
 
+use crate::board::Board;
 use crate::boards::MOST_STATEMENTS;
 use crate::room::Room;
 use lexing::Words;
@@ -10,7 +11,7 @@ use text::Expressions;
 impl Room {
     // Room for any program that may be read, or none for want of memory.
     pub fn reserve(heap: Global) -> Result<Room, AllocError>
-        ensures { IfOk result (λ x. (x.words.list.items ≡ []) × (x.drafts.items ≡ []) × (x.statements.items ≡ []) × (x.expressions.ariths.items ≡ []) × (x.expressions.tests.items ≡ [])) }
+        ensures { IfOk result (λ x. (x.words.list.items ≡ []) × (x.board.drafts.items ≡ []) × (x.statements.items ≡ []) × (x.board.expressions.ariths.items ≡ []) × (x.board.expressions.tests.items ≡ [])) }
     {
         let words = Words::reserve(heap)?;
         let expressions = Expressions::reserve(heap)?;
@@ -18,9 +19,11 @@ impl Room {
         let statements = Vec::with_capacity(heap, MOST_STATEMENTS)?;
         Ok(Room {
             words,
-            drafts,
+            board: Board {
+                drafts,
+                expressions,
+            },
             statements,
-            expressions,
         })
     }
 }

@@ -4,8 +4,6 @@ use text::Limits;
 #[derive(Clone, Copy)]
 pub struct Site {
     pub limits: Limits,
-    // How many of `{`, `(`, `[`, `if` and `while` may still be opened.
-    pub left: usize,
     // Whether some `while` is open.
     pub inside: bool,
     // The label of the `if` or `while` that the statement is a part of.

@@ -8,10 +8,7 @@ use crate::declarations::declarations;
 use crate::header::Header;
 use crate::phrases::list;
 use crate::site::Site;
-use text::{Fault, Limits, Scope, Word, first, unexpected};
-
-// The most that may be open at one word.
-const DEEPEST: usize = 16;
+use text::{Fault, Limits, Scope, Word, unexpected};
 
 // The declarations into the header, and the statements onto the board; both are empty before.
 pub(crate) fn whole(
@@ -25,17 +22,14 @@ pub(crate) fn whole(
 {
     let body = declarations(words, header, end)?;
     let site = Site {
-        limits: Limits {
-            scope: Scope::Declared(header.flags()),
-            end,
-        },
-        left: DEEPEST,
+        limits: Limits::new(Scope::Declared(header.flags()), end),
         inside: false,
         owner: None,
     };
     let rest = list(body, site, board)?;
-    match first(rest) {
-        Some(_) => Err(unexpected(rest, end)),
-        None => Ok(()),
+    if rest.is_empty() {
+        Ok(())
+    } else {
+        Err(unexpected(rest, end))
     }
 }

@@ -1,9 +1,10 @@
 -- Which places the automaton's sets have: the bits at their one border. Assumes nothing.
-use Rattle.std.proofs.Common.{◌≡◌, ℕ, zero, suc, ◌+◌, ◌-◌, ◌/◌, ◌%◌, ◌^◌, ◌<◌, ◌≤◌, max, Bool, true, false, cond, ◌&&◌, ◌⊎◌, List, [], ◌∷◌, length, get_or, set, sym, refl, ap, ◌∙◌, subst, inl, inr, pow-suc, arith, length-set, get_or-set_other, get_or-set_same}
-use native.Mathlib.Nat.{mul-mod_left, div_self, zero-div, zero-max}
-use lib.Bits.{bit_or, or_step, or_shr}
-use Rattle.std.proofs.lemmas.Nat.{pow_pos, pow-add, shl-shr, mod-mul-add, mod_below, div_below, pow_below}
-use Rattle.std.proofs.lemmas.Bool.{eqb-true, eq-eqb, cases_order, cases_Bool, cases_eq, cases_lt, false≢true, and_parts, and_from}
+use Rattle.std.proofs.Common.{◌≡◌, ℕ, zero, suc, ◌+◌, ◌/◌, ◌%◌, ◌^◌, ◌<◌, ◌≤◌, max, Bool, true, false, cond, ◌&&◌, ◌⊎◌, List, [], ◌∷◌, length, get_or, set, sym, refl, ap, ◌∙◌, subst, inl, inr, arith, length-set, get_or-set_other, get_or-set_same}
+use native.Mathlib.Nat.{zero-max}
+use lib.Bits.{bit_or}
+use Rattle.std.proofs.lemmas.Nat.{mod_below}
+use Rattle.std.proofs.lemmas.Nat.Bits.{bit_at-zero, bit_at_or, bit_at-pow_same, bit_at-pow_other}
+use Rattle.std.proofs.lemmas.Bool.{eqb-true, eq-eqb, cases_Bool, cases_eq, cases_lt, false≢true, and_parts, and_from}
 use Rattle.regular.specs.Words.{Regex, empty, one, sequence, alternative, star, plus, size}
 use Rattle.regular.specs.Sets.{has, Has, with, gather, keep, gain}
 use Rattle.regular.specs.Automaton.{nullable, firsts, lasts, follows}
@@ -12,22 +13,14 @@ use Rattle.regular.proofs.Paths.{First, Last, Follow}
 bit_cases : (x : ℕ) → (x % 2 ≡ 0) ⊎ (x % 2 ≡ 1)
 bit_cases x = let h = mod_below x 2 (omega arith) in grind arith
 
-or_bit : (x y : ℕ) → bit_or x y % 2 ≡ max (x % 2) (y % 2)
-or_bit x y =
-    let b : max (x % 2) (y % 2) < 2 = elim (bit_cases x) [ inl p ↦ elim (bit_cases y) [ inl q ↦ simp (p, q) (omega arith) | inr q ↦ simp (p, q) (omega arith) ] | inr p ↦ elim (bit_cases y) [ inl q ↦ simp (p, q) (omega arith) | inr q ↦ simp (p, q) (omega arith) ] ] in
-    ap (λ z. z % 2) (or_step x y) ∙ mod-mul-add (bit_or (x / 2) (y / 2)) 2 (max (x % 2) (y % 2)) b
-
-or_bits : (a b i : ℕ) → bit_or a b / 2 ^ i % 2 ≡ max (a / 2 ^ i % 2) (b / 2 ^ i % 2)
-or_bits a b i = ap (λ z. z % 2) (or_shr a b i) ∙ or_bit (a / 2 ^ i) (b / 2 ^ i)
-
 pub has_zero : (i : ℕ) → Has 0 i → ⊥
-has_zero i h = let e = eqb-true (0 / 2 ^ i % 2) 1 h in let z = ap (λ x. x % 2) (zero-div (2 ^ i)) in omega arith
+has_zero i h = let e = eqb-true (0 / 2 ^ i % 2) 1 h in omega (arith, bit_at-zero i)
 
 pub has_or_to : (a b i : ℕ) → Has (bit_or a b) i → Has a i ⊎ Has b i
 has_or_to a b i h =
     let e = eqb-true (bit_or a b / 2 ^ i % 2) 1 h in
     elim (bit_cases (a / 2 ^ i)) [
-      | inl p ↦ inr (eq-eqb (b / 2 ^ i % 2) 1 (sym (zero-max (b / 2 ^ i % 2)) ∙ ap (λ z. max z (b / 2 ^ i % 2)) (sym p) ∙ sym (or_bits a b i) ∙ e))
+      | inl p ↦ inr (eq-eqb (b / 2 ^ i % 2) 1 (sym (zero-max (b / 2 ^ i % 2)) ∙ ap (λ z. max z (b / 2 ^ i % 2)) (sym p) ∙ sym (bit_at_or a b i) ∙ e))
       | inr p ↦ inl (eq-eqb (a / 2 ^ i % 2) 1 p)
     ]
 
@@ -35,39 +28,21 @@ pub has_or_left : (a b i : ℕ) → Has a i → Has (bit_or a b) i
 has_or_left a b i h =
     let e = eqb-true (a / 2 ^ i % 2) 1 h in
     let m : max (a / 2 ^ i % 2) (b / 2 ^ i % 2) ≡ 1 = elim (bit_cases (b / 2 ^ i)) [ inl q ↦ simp (e, q) | inr q ↦ simp (e, q) ] in
-    eq-eqb (bit_or a b / 2 ^ i % 2) 1 (or_bits a b i ∙ m)
+    eq-eqb (bit_or a b / 2 ^ i % 2) 1 (bit_at_or a b i ∙ m)
 
 pub has_or_right : (a b i : ℕ) → Has b i → Has (bit_or a b) i
 has_or_right a b i h =
     let e = eqb-true (b / 2 ^ i % 2) 1 h in
     let m : max (a / 2 ^ i % 2) (b / 2 ^ i % 2) ≡ 1 = elim (bit_cases (a / 2 ^ i)) [ inl q ↦ simp (e, q) | inr q ↦ simp (e, q) ] in
-    eq-eqb (bit_or a b / 2 ^ i % 2) 1 (or_bits a b i ∙ m)
+    eq-eqb (bit_or a b / 2 ^ i % 2) 1 (bit_at_or a b i ∙ m)
 
 pub has_one : (n : ℕ) → Has (2 ^ n) n
-has_one n = eq-eqb (2 ^ n / 2 ^ n % 2) 1 (ap (λ z. z % 2) (div_self (pow_pos n)))
-
-high_bit : (k i : ℕ) → 2 ^ (suc k + i) / 2 ^ i % 2 ≡ 0
-high_bit k i = ap (λ z. z / 2 ^ i % 2) (pow-add 2 (suc k) i) ∙ ap (λ z. z % 2) (shl-shr (2 ^ suc k) i) ∙ ap (λ z. z % 2) (pow-suc 2 k) ∙ mul-mod_left (2 ^ k) 2
-
-low_bit : (n i : ℕ) → n < i → 2 ^ n / 2 ^ i % 2 ≡ 0
-low_bit n i h =
-    let d = div_below (2 ^ n) (2 ^ i) 1 (pow_pos i) (omega (arith, pow_below n i h)) in
-    let z : 2 ^ n / 2 ^ i ≡ 0 = omega arith in
-    ap (λ x. x % 2) z
+has_one n = eq-eqb (2 ^ n / 2 ^ n % 2) 1 (bit_at-pow_same n)
 
 pub has_one_to : (n i : ℕ) → Has (2 ^ n) i → i ≡ n
 has_one_to n i h =
     let e = eqb-true (2 ^ n / 2 ^ i % 2) 1 h in
-    elim (cases_order i n) [
-      | inl p ↦ p
-      | inr q ↦ elim q [
-        | inl p ↦
-            let s : suc (n - i - 1) + i ≡ n = omega arith in
-            let z = subst (λ (x : ℕ). 2 ^ x / 2 ^ i % 2 ≡ 0) s (high_bit (n - i - 1) i) in
-            omega arith
-        | inr p ↦ let z = low_bit n i p in omega arith
-      ]
-    ]
+    elim (cases_eq i n) [ inl p ↦ p | inr d ↦ let z = bit_at-pow_other n i d in omega arith ]
 
 pub cond_has : (b : Bool) (x y j : ℕ) → Has (cond b x y) j → ((b ≡ true) × Has x j) ⊎ ((b ≡ false) × Has y j)
 cond_has true x y j h = inl (refl, h)

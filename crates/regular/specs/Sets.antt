@@ -1,5 +1,5 @@
 -- Sets of small numbers, as places and labels, in one number: i is in the set where bit i is 1. Assumes nothing.
-use Rattle.std.specs.Prelude.{◌≡◌, ℕ, zero, suc, ◌/◌, ◌%◌, ◌^◌, Bool, true, cond, ◌&&◌, List, ◌==◌, bit_or, slice_index, slice_set}
+use Rattle.std.specs.Prelude.{◌≡◌, ℕ, zero, suc, ◌/◌, ◌%◌, ◌^◌, Bool, true, cond, ◌&&◌, List, [], ◌∷◌, ◌==◌, bit_or, slice_index, slice_set}
 
 -- whether i is in the set
 abbrev pub has : ℕ → ℕ → Bool
@@ -12,6 +12,11 @@ Has s i = has s i ≡ true
 -- the set with i in it too
 abbrev pub with : ℕ → ℕ → ℕ
 with s i = bit_or s (2 ^ i)
+
+-- a set with the numbers of a list in it too
+abbrev pub collected : ℕ → List ℕ → ℕ
+collected s [] = s
+collected s (n ∷ ns) = collected (with s n) ns
 
 -- the sets that stand at the places of s, together; of the first k places
 abbrev pub gather : List ℕ → ℕ → ℕ → ℕ

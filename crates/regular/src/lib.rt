@@ -3,7 +3,9 @@
 
 mod law;
 mod positions;
+mod sets;
 mod state;
 
 pub use law::automaton_follows_words;
 pub use positions::Positions;
+pub use sets::{has, with};

@@ -8,12 +8,7 @@ impl Key for Positions {
     ghost kind = { positions_key };
 
     fn same(&self, other: &Positions) -> bool {
-        match (*self, *other) {
-            (Positions::Start, Positions::Start) => true,
-            (Positions::After(mine), Positions::After(theirs)) => mine == theirs,
-            (Positions::Start, Positions::After(_)) => false,
-            (Positions::After(_), Positions::Start) => false,
-        }
+        *self == *other
     }
 
     fn digest(&self) -> u64 {

@@ -3,10 +3,12 @@ use Rattle.std.proofs.Common.{◌≡◌, ℕ, ◌≤◌, List, [], ◌∷◌, le
 use Rattle.grammar.specs.Answers.{Answer, good, fault}
 use Rattle.grammar.proofs.Meaning.{reading_stands}
 use Rattle.model.specs.declared.refusal.Cause.{Cause}
+use Rattle.model.specs.declared.refusal.Cause.TheVariants.{Length}
 use Rattle.model.specs.declared.refusal.Layer.TheVariants.{Sheet as SheetLayer}
 use Rattle.text.specs.declared.reading.Fault.{Fault}
 use Rattle.text.specs.declared.word.Word.{Word}
 use Rattle.lexing.specs.Lexing.{words}
+use Rattle.lexing.specs.Cut.{TooLong as TooLongToCut}
 use Rattle.text.specs.Table.{Item, Role, table, sheet_start, expression}
 use Rattle.text.specs.Charges.{Memo, causes, open_memo}
 use Rattle.text.specs.Reading.{reads}
@@ -17,7 +19,7 @@ use Rattle.sheet.specs.declared.draft.Draft.{Draft}
 use Rattle.sheet.specs.Texts.{SheetText}
 use Rattle.sheet.specs.Sheets.{tree_of}
 use Rattle.sheet.specs.Owed.{Now, noted, Stopped, WholeRead, WholeStops}
-use Rattle.sheet.specs.Answered.{IsSheet, Fair, Only, Faultless, Faulty}
+use Rattle.sheet.specs.Answered.{IsSheet, Fair, Only, Faultless, Faulty, TooLong, refused}
 use Rattle.sheet.proofs.Meant.{same_sheets}
 use Rattle.sheet.proofs.Sole.{sheet_one}
 
@@ -51,3 +53,6 @@ module _ (x : Draft) (counted : x.tests.counted ≡ 0) (parts : vec_len x.leaves
     deserved = subst (λ (u : List Word). Only u (fault f.cause s.words)) cut (deserved ws (fault f.cause s.words) (s.stops open_memo first_memo));
     is = ap (λ (p : ℕ). record { layer = SheetLayer; cause = f.cause; place = p }) s.place_is;
   }
+
+pub too_long : (bs : List ℕ) (f : Fault) → TooLongToCut bs f → TooLong bs (refused f)
+too_long bs f h = (h.long, ap (λ (c : Cause). record { layer = SheetLayer; cause = c; place = f.place }) h.cause_is ∙ ap (λ (p : ℕ). record { layer = SheetLayer; cause = Length; place = p }) h.place_is)

@@ -14,7 +14,7 @@ use Rattle.sheet.specs.Parts.{sheet_tree, Standing}
 use Rattle.sheet.specs.Drafts.{Stand, Grown, LaidDown}
 use Rattle.sheet.proofs.Laying.{laid_length, laid_sum, laid_links}
 use Rattle.sheet.proofs.Regrown.{sheet_tree_laid, stand_map, stand_tested}
-use Rattle.text.proofs.Lists.{empty_list}
+use Rattle.std.proofs.lemmas.List.{nil_from_length}
 
 module _ (xs : List Node) (ls : List Leaf) (ns : List ArithNode) (ts : List TestNode) (e : Regex) (is : xs ≡ laid e 0 0) (h : Stand ns ts ls (assertions e)) where
   pub same_tree : sheet_tree xs ls ns ts ≡ e
@@ -34,8 +34,8 @@ module _ (xs : List Node) (ls : List Leaf) (ns : List ArithNode) (ts : List Test
 -- what has been laid down in a fresh draft
 pub laid_down : (x y : Draft) (e : Regex) (i : ℕ) → vec_len x.nodes ≡ 0 → vec_len x.leaves ≡ 0 → Grown x y e i → LaidDown y e
 laid_down x y e i a b g =
-    let na = empty_list (vec_items x.nodes) (omega (arith, x.nodes.ok)) in
-    let nb = empty_list (vec_items x.leaves) (omega (arith, x.leaves.ok)) in
+    let na = nil_from_length (vec_items x.nodes) (omega (arith, x.nodes.ok)) in
+    let nb = nil_from_length (vec_items x.leaves) (omega (arith, x.leaves.ok)) in
     let al : vec_items y.leaves ≡ g.added = g.leaves ∙ ap (λ (l : List Leaf). l ++ g.added) nb in
     record {
       nodes = g.nodes ∙ ap (λ (l : List Node). l ++ laid e (vec_len x.nodes) (vec_len x.leaves)) na ∙ ap (λ (o : ℕ). laid e o (vec_len x.leaves)) a ∙ ap (laid e 0) b;

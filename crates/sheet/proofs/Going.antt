@@ -6,10 +6,10 @@ use Rattle.grammar.proofs.Steps.{feed_takes, reading_stuck, reading_good}
 use Rattle.grammar.proofs.Trees.{find_later}
 use Rattle.model.specs.declared.refusal.Cause.TheVariants.{Many, Deep, Number as Numbered}
 use Rattle.text.specs.declared.word.Token.{Token}
-use Rattle.text.specs.declared.word.Token.TheVariants.{Number, Empty, Rest, OpenParen, CloseParen, OpenBracket, Question, Bar, Comma}
+use Rattle.text.specs.declared.word.Token.TheVariants.{Number, Empty, Rest, OpenParen, CloseParen, OpenBracket, Question, Bar}
 use Rattle.text.specs.declared.word.Word.{Word}
 use Rattle.text.specs.Words.{at, a_number, amount}
-use Rattle.text.specs.Table.{Role, plain, sheet_sign, asserts, asserts_label, labels, Item, one_test, joined, close_bracket, bracketed, unit, repeats, more_labels, label, colon, group, expression, rules_of, table, line, unit_lines}
+use Rattle.text.specs.Table.{Role, plain, sheet_sign, asserts, asserts_label, Item, one_test, joined, close_bracket, bracketed, unit, repeats, more_labels, colon, group, expression, rules_of, table, line, unit_lines}
 use Rattle.text.specs.Charges.{Memo, causes, when, deep, one_part, one_sign, counting, with_parts, with_signs, open_in}
 use Rattle.text.specs.Derivations.{Free}
 use Rattle.text.specs.Reading.{reads, cause_of, Skipped, Unlike}
@@ -35,10 +35,6 @@ as_counted m n p q a b c = ap (λ x. counts m x m.parts m.signs) a ∙ ap (λ x.
 -- what has been noted holds there
 pub noted_here : (y : Draft) (left : ℕ) (m : Memo) (k : List Item) {n p q : ℕ} → Here n p q left m k → Now y left (noted m y) k
 noted_here y left m k h = record { counted = refl; parts = refl; signs = refl; scoped = h.scoped; nested = h.nested }
-
--- nothing is counted
-pub noted_same : (x : Draft) (left : ℕ) (m : Memo) (k : List Item) → Now x left m k → m ≡ noted m x
-noted_same x left m k h = as_counted m x.tests.counted (vec_len x.leaves) x.signs h.counted h.parts h.signs
 
 pub sign_fine : (k : List Item) (m : Memo) → m.signs < 256 → open_in k ≤ 16 → one_sign k m ≡ fine (with_signs m (suc m.signs))
 sign_fine k m h d = ap (λ b. when b Many (deep k (with_signs m (suc m.signs)))) (le-ltb 256 (suc m.signs) (omega arith)) ∙ not_deep k (with_signs m (suc m.signs)) d
@@ -72,30 +68,14 @@ module _ (i : Item) (t : Token) (js : List Item) (found : (p : ℕ) → find (ru
 
 -- a number as the first word of an assertion
 module _ (v : ℕ) (x : Draft) (left : ℕ) (w : Word) (e : w.token ≡ Number v) (ws : List Word) where
-  pub number_goes : v ≤ 63 → vec_len x.leaves < 60 → (m : Memo) (k j : List Item) → Now x left m j → open_in k ≤ 16 → reads (w ∷ ws) m (unit ∷ k) ≡ reads ws (with_parts m (suc m.parts)) (more_labels ∷ colon ∷ bracketed ∷ k)
+  pub number_goes : v < 64 → vec_len x.leaves < 60 → (m : Memo) (k j : List Item) → Now x left m j → open_in k ≤ 16 → reads (w ∷ ws) m (unit ∷ k) ≡ reads ws (with_parts m (suc m.parts)) (more_labels ∷ colon ∷ bracketed ∷ k)
   number_goes s l m k j h d = takes_word unit (Number v) asserts_label (more_labels ∷ colon ∷ bracketed ∷ []) w e (λ p. refl) ws m (with_parts m (suc m.parts)) k (ap (λ b. when b Numbered (one_part (more_labels ∷ colon ∷ bracketed ∷ k) m)) (le-ltb 63 (amount w.token) (let y = ap amount e in omega arith)) ∙ part_fine (more_labels ∷ colon ∷ bracketed ∷ k) m (let z = h.parts in omega arith) (omega arith))
 
   pub number_large : 63 < v → (m : Memo) (k : List Item) → reads (w ∷ ws) m (unit ∷ k) ≡ fault Numbered (w ∷ ws)
   number_large s m k = charges_word unit (Number v) asserts_label (more_labels ∷ colon ∷ bracketed ∷ []) w e (λ p. refl) ws m k Numbered (ap (λ b. when b Numbered (one_part (more_labels ∷ colon ∷ bracketed ∷ k) m)) (lt-ltb 63 (amount w.token) (let y = ap amount e in omega arith)))
 
-  pub number_many : v ≤ 63 → 60 ≤ vec_len x.leaves → (m : Memo) (k j : List Item) → Now x left m j → reads (w ∷ ws) m (unit ∷ k) ≡ fault Many (w ∷ ws)
+  pub number_many : v < 64 → 60 ≤ vec_len x.leaves → (m : Memo) (k j : List Item) → Now x left m j → reads (w ∷ ws) m (unit ∷ k) ≡ fault Many (w ∷ ws)
   number_many s l m k j h = charges_word unit (Number v) asserts_label (more_labels ∷ colon ∷ bracketed ∷ []) w e (λ p. refl) ws m k Many (ap (λ b. when b Numbered (one_part (more_labels ∷ colon ∷ bracketed ∷ k) m)) (le-ltb 63 (amount w.token) (let y = ap amount e in omega arith)) ∙ part_many (more_labels ∷ colon ∷ bracketed ∷ k) m (let z = h.parts in omega arith))
-
--- `,` and a label
-module _ (w : Word) (e : w.token ≡ Comma) (ws : List Word) where
-  pub comma_goes : (m : Memo) (k : List Item) → open_in k ≤ 16 → reads (w ∷ ws) m (more_labels ∷ k) ≡ reads ws m (label ∷ more_labels ∷ k)
-  comma_goes m k d = takes_word more_labels Comma plain (label ∷ more_labels ∷ []) w e (λ p. refl) ws m m k (not_deep (label ∷ more_labels ∷ k) m (omega arith))
-
-module _ (v : ℕ) (w : Word) (e : w.token ≡ Number v) (ws : List Word) where
-  pub label_goes : v ≤ 63 → (m : Memo) (k : List Item) → open_in k ≤ 16 → reads (w ∷ ws) m (label ∷ k) ≡ reads ws m k
-  label_goes s m k d = takes_word label (Number v) labels [] w e (λ p. refl) ws m m k (ap (λ b. when b Numbered (deep k m)) (le-ltb 63 (amount w.token) (let y = ap amount e in omega arith)) ∙ not_deep k m d)
-
-  pub label_large : 63 < v → (m : Memo) (k : List Item) → reads (w ∷ ws) m (label ∷ k) ≡ fault Numbered (w ∷ ws)
-  label_large s m k = charges_word label (Number v) labels [] w e (λ p. refl) ws m k Numbered (ap (λ b. when b Numbered (deep k m)) (lt-ltb 63 (amount w.token) (let y = ap amount e in omega arith)))
-
-pub quiet_label : (ws : List Word) → ((w : Word) (rest : List Word) → ws ≡ w ∷ rest → (n : ℕ) → w.token ≡ Number n → ⊥) → Quiet (rules_of label) ws
-quiet_label [] h = tt
-quiet_label (w ∷ ws) h = find_later (line a_number labels []) [] w (no_number w.token (h w ws refl))
 
 -- nothing is owed any more, and a word comes
 pub nothing_owed : (w : Word) (ws : List Word) (m : Memo) → reads (w ∷ ws) m [] ≡ fault (cause_of (w ∷ ws)) (w ∷ ws)
@@ -160,8 +140,6 @@ loop_item z l w ws (at_open e) m k = same_feed w ws m (z ∷ k) (unit ∷ repeat
 loop_item z l w ws (at_question e) m k = same_feed w ws m (z ∷ k) (unit ∷ repeats ∷ z ∷ k) (feed_takes table z k w asserts (colon ∷ bracketed ∷ repeats ∷ z ∷ []) (find_at z w Question e ∙ l.opens.at_question w.place)) (feed_takes table unit (repeats ∷ z ∷ k) w asserts (colon ∷ bracketed ∷ []) (find_at unit w Question e))
 loop_item z l w ws (at_number n e) m k = same_feed w ws m (z ∷ k) (unit ∷ repeats ∷ z ∷ k) (feed_takes table z k w asserts_label (more_labels ∷ colon ∷ bracketed ∷ repeats ∷ z ∷ []) (find_at z w (Number n) e ∙ l.opens.at_number n w.place)) (feed_takes table unit (repeats ∷ z ∷ k) w asserts_label (more_labels ∷ colon ∷ bracketed ∷ []) (find_at unit w (Number n) e))
 
-pub quiet_bracketed : (w : Word) (ws : List Word) → (w.token ≡ OpenBracket → ⊥) → Quiet (rules_of bracketed) (w ∷ ws)
-quiet_bracketed w ws h = find_later (line (at OpenBracket) plain (one_test ∷ joined ∷ close_bracket ∷ [])) [] w (other_kind w.token OpenBracket (lit≤ tt) refl h)
-
-pub quiet_label_word : (w : Word) (ws : List Word) → ((n : ℕ) → w.token ≡ Number n → ⊥) → Quiet (rules_of label) (w ∷ ws)
-quiet_label_word w ws h = find_later (line a_number labels []) [] w (no_number w.token h)
+pub quiet_bracketed : (ws : List Word) → Unlike OpenBracket ws → Quiet (rules_of bracketed) ws
+quiet_bracketed [] u = tt
+quiet_bracketed (w ∷ ws) u = find_later (line (at OpenBracket) plain (one_test ∷ joined ∷ close_bracket ∷ [])) [] w u

@@ -1,23 +1,22 @@
 -- What the readers of an assertion and of a sign have read. Assumes nothing.
-use Rattle.std.proofs.Common.{◌≡◌, ℕ, suc, ◌<◌, ◌≤◌, List, [], ◌∷◌, ◌++◌, vec_items, vec_len, sym, refl, ap, ◌∙◌, subst, arith, lit≤}
-use Rattle.grammar.specs.Grammars.{Quiet}
+use Rattle.std.proofs.Common.{◌≡◌, ℕ, suc, ◌<◌, List, [], ◌∷◌, ◌++◌, vec_items, vec_len, sym, refl, ap, ◌∙◌, subst, arith, lit≤}
 use Rattle.model.specs.declared.refusal.Cause.{Cause}
 use Rattle.model.specs.declared.refusal.Cause.TheVariants.{Many, Number as Numbered}
 use Rattle.text.specs.declared.expressions.Expressions.{Expressions}
 use Rattle.text.specs.declared.reading.Fault.{Fault}
-use Rattle.text.specs.declared.word.Token.TheVariants.{Number, Empty, OpenBracket, CloseBracket, Colon, Question, Comma}
+use Rattle.text.specs.declared.word.Token.TheVariants.{Number, Empty, OpenBracket, CloseBracket, Colon, Question}
 use Rattle.text.specs.declared.word.Word.{Word}
+use Rattle.text.specs.declared.word.Scope.{Scope}
 use Rattle.text.specs.declared.word.Scope.TheVariants.{Every}
 use Rattle.text.specs.Nodes.{TestAt}
-use Rattle.text.specs.Derivations.{Free, Condition}
-use Rattle.text.specs.LabelSets.{every, these, MoreLabels, no_comma, comma, Labels as Labelling, question, numbers}
-use Rattle.text.specs.Table.{Item, bracketed, unit, more_labels, label, colon, one_test, joined, rules_of}
+use Rattle.text.specs.Derivations.{Condition}
+use Rattle.text.specs.LabelSets.{every, these, MoreLabels, Labels as Labelling, question, numbers}
+use Rattle.text.specs.Table.{Item, bracketed, unit, more_labels, colon, one_test, joined}
 use Rattle.text.specs.Charges.{Memo, counting, with_parts, with_signs}
 use Rattle.text.specs.Reading.{reads, place_of, cause_of, FaultAt, Skipped, Unlike, Goes as GoesText}
 use Rattle.text.specs.Outcomes.{TestRead, Stopped as TestStopped}
 use Rattle.text.proofs.Tests.{is_token}
-use Rattle.text.proofs.Derived.{quiet_labels}
-use Rattle.text.proofs.Going.{refuses, leaves_out, sign_goes, sign_stops}
+use Rattle.text.proofs.Going.{sign_goes, sign_stops}
 use Rattle.regular.specs.Words.{empty, one}
 use Rattle.regular.specs.Sets.{with}
 use Rattle.sheet.specs.declared.tree.Node.TheVariants.{One, Empty as EmptyNode}
@@ -28,9 +27,10 @@ use Rattle.sheet.specs.declared.tree.Leaf.TheVariants.{Given}
 use Rattle.sheet.specs.declared.draft.Draft.{Draft}
 use Rattle.sheet.specs.Parts.{labels_of}
 use Rattle.sheet.specs.Texts.{marked, is_empty, asserted}
-use Rattle.sheet.specs.Drafts.{SameParts, Pushed, Asserted, Grown, Drawn}
-use Rattle.sheet.specs.Owed.{Here, Now, noted, Stops, Stopped, LabelsRead, LabelsStop, Bracketed, TestedRead, TestedStops, UnitRead}
-use Rattle.sheet.proofs.Going.{sign_goes as sign_goes_at, sign_stops as sign_stops_at, comma_goes, label_goes, label_large, part_goes, part_stops, number_goes, number_large, number_many}
+use Rattle.sheet.specs.Drafts.{Asserted, Grown, Drawn}
+use Rattle.labels.specs.LabelBits.{LabelStops, NoLabel, MoreRead}
+use Rattle.sheet.specs.Owed.{Here, Now, noted, Stops, Stopped, Bracketed, TestedRead, TestedStops, UnitRead, Noded, TooMany, NoRoom}
+use Rattle.sheet.proofs.Going.{sign_goes as sign_goes_at, sign_stops as sign_stops_at, part_goes, part_stops, number_goes, number_large, number_many}
 use Rattle.sheet.proofs.Drafted.{grown_empty}
 
 pub stopped_by : (S : Cause → List Word → Type 0) (end : ℕ) (f : Fault) (c : Cause) (v : List Word) → f.cause ≡ c → f.place ≡ place_of end v → S c v → Stopped S end f
@@ -44,28 +44,12 @@ stopped_on end f h s = record { words = s.words; place_is = s.place_is; stops = 
 pub stopped_at : (S : List Word → Cause → List Word → Type 0) (end : ℕ) (f : Fault) (ws vs : List Word) → ws ≡ vs → Stopped (S vs) end f → Stopped (S ws) end f
 stopped_at S end f ws vs e s = subst (λ (x : List Word). Stopped (S x) end f) (sym e) s
 
--- labels
-pub labels_none : (s : ℕ) (ws : List Word) → Free (Comma ∷ []) ws → LabelsRead s ws s ws
-labels_none s ws f = record { numbers = []; derives = no_comma f; is = refl; goes = λ m k d. leaves_out more_labels refl ws (quiet_labels ws f) m k }
-
-pub labels_refused : (c : Word) (rest : List Word) (end : ℕ) (f : Fault) → c.token ≡ Comma → Quiet (rules_of label) rest → FaultAt end rest f → Stopped (LabelsStop (c ∷ rest)) end f
-labels_refused c rest end f e q h = stopped_by (LabelsStop (c ∷ rest)) end f (cause_of rest) rest h.cause_is h.place_is (λ m k d. comma_goes c e rest m k d ∙ refuses label refl rest q m (more_labels ∷ k))
-
-pub labels_large : (c w : Word) (rest : List Word) (v end : ℕ) (f : Fault) → c.token ≡ Comma → w.token ≡ Number v → 63 < v → f.cause ≡ Numbered → f.place ≡ w.place → Stopped (LabelsStop (c ∷ w ∷ rest)) end f
-labels_large c w rest v end f e h l a b = stopped_by (LabelsStop (c ∷ w ∷ rest)) end f Numbered (w ∷ rest) a b (λ m k d. comma_goes c e (w ∷ rest) m k d ∙ label_large v w h rest l m (more_labels ∷ k))
-
-pub labels_more : (s v : ℕ) (c w : Word) (ws : List Word) (r : ℕ) (rest : List Word) → c.token ≡ Comma → w.token ≡ Number v → v ≤ 63 → LabelsRead (with s v) ws r rest → LabelsRead s (c ∷ w ∷ ws) r rest
-labels_more s v c w ws r rest e h l x = record { numbers = v ∷ x.numbers; derives = comma e h x.derives; is = x.is; goes = λ m k d. comma_goes c e (w ∷ ws) m k d ∙ label_goes v w h ws l m (more_labels ∷ k) (omega arith) ∙ x.goes m k d }
-
-pub labels_stop_more : (v : ℕ) (c w : Word) (ws : List Word) → c.token ≡ Comma → w.token ≡ Number v → v ≤ 63 → (x : Cause) (u : List Word) → LabelsStop ws x u → LabelsStop (c ∷ w ∷ ws) x u
-labels_stop_more v c w ws e h l x u s m k d = comma_goes c e (w ∷ ws) m k d ∙ label_goes v w h ws l m (more_labels ∷ k) (omega arith) ∙ s m k d
-
 -- [ B ]
-pub bracketed_read : {left left' : ℕ} {ws inner mid rest : List Word} {x y : Expressions} {i : ℕ} (o d : Word) (r : TestRead (one_test ∷ joined ∷ []) Condition Every left' inner x y i mid) → ws ≡ o ∷ inner → o.token ≡ OpenBracket → mid ≡ d ∷ rest → d.token ≡ CloseBracket → GoesText x.counted Every left (bracketed ∷ []) (o ∷ inner) rest y.counted → TestRead (bracketed ∷ []) Bracketed Every left ws x y i rest
-bracketed_read {left} {left'} {ws} {inner} {mid} {rest} {x} {y} o d r e h k g p = record {
+pub bracketed_read : {s : Scope} {left left' : ℕ} {ws inner mid rest : List Word} {x y : Expressions} {i : ℕ} (o d : Word) (r : TestRead (one_test ∷ joined ∷ []) Condition s left' inner x y i mid) → ws ≡ o ∷ inner → o.token ≡ OpenBracket → mid ≡ d ∷ rest → d.token ≡ CloseBracket → GoesText x.counted s left (bracketed ∷ []) (o ∷ inner) rest y.counted → TestRead (bracketed ∷ []) Bracketed s left ws x y i rest
+bracketed_read {s} {left} {left'} {ws} {inner} {mid} {rest} {x} {y} o d r e h k g p = record {
   tree = r.tree;
   derives = (o, d, inner, e, h, subst (λ (z : List Word). Condition inner r.tree z) k r.derives, g);
-  goes = subst (λ (z : List Word). GoesText x.counted Every left (bracketed ∷ []) z rest y.counted) (sym e) p;
+  goes = subst (λ (z : List Word). GoesText x.counted s left (bracketed ∷ []) z rest y.counted) (sym e) p;
   stands = r.stands;
   last = r.last;
   added = r.added;
@@ -149,45 +133,48 @@ module _ (x : Draft) (left : ℕ) (w : Word) (e : w.token ≡ Question) (ws : Li
   pub question_stopped : (end : ℕ) (f : Fault) → Stopped (TestedStops x left ws) end f → Stopped (Stops x left (unit ∷ []) (w ∷ ws)) end f
   question_stopped end f s = stopped_on end f (λ c v t m k h. question_first m k h ∙ t (with_parts m (suc m.parts)) k (counted_part x left m k h)) s
 
-pub question_many : (x : Draft) (left : ℕ) (w : Word) → w.token ≡ Question → (ws : List Word) → 60 ≤ vec_len x.leaves → (end : ℕ) (f : Fault) → f.cause ≡ Many → f.place ≡ w.place → Stopped (Stops x left (unit ∷ []) (w ∷ ws)) end f
-question_many x left w e ws l end f a b = stopped_by (Stops x left (unit ∷ []) (w ∷ ws)) end f Many (w ∷ ws) a b (λ m k h. part_stops unit Question (colon ∷ bracketed ∷ []) (λ p. refl) x left w e ws l m k k h)
+pub question_many : (x : Draft) (left : ℕ) (w : Word) → w.token ≡ Question → (ws : List Word) (end : ℕ) (f : Fault) → NoRoom x w.place f → Stopped (Stops x left (unit ∷ []) (w ∷ ws)) end f
+question_many x left w e ws end f n = stopped_by (Stops x left (unit ∷ []) (w ∷ ws)) end f Many (w ∷ ws) n.cause_is n.place_is (λ m k h. part_stops unit Question (colon ∷ bracketed ∷ []) (λ p. refl) x left w e ws n.full m k k h)
 
 -- an assertion for some labels
-module _ (x : Draft) (left v : ℕ) (w : Word) (e : w.token ≡ Number v) (ws : List Word) (small : v ≤ 63) (few : vec_len x.leaves < 60) where
+module _ (x : Draft) (left v : ℕ) (w : Word) (e : w.token ≡ Number v) (ws : List Word) (small : v < 64) (few : vec_len x.leaves < 60) where
   number_first : (m : Memo) (k : List Item) → Now x left m k → reads (w ∷ ws) m (unit ∷ k) ≡ reads ws (with_parts m (suc m.parts)) (more_labels ∷ colon ∷ bracketed ∷ k)
   number_first m k h = number_goes v x left w e ws small few m k k h (let q = h.nested in omega arith)
 
-  pub number_read : (mid : List Word) (set : ℕ) → LabelsRead (with 0 v) ws set mid → (y : Draft) (i : ℕ) (rest : List Word) → TestedRead x (Among set) left mid y i rest → UnitRead x left (w ∷ ws) y i rest
+  pub number_read : (mid : List Word) (set : ℕ) → MoreRead (with 0 v) ws set mid → (y : Draft) (i : ℕ) (rest : List Word) → TestedRead x (Among set) left mid y i rest → UnitRead x left (w ∷ ws) y i rest
   number_read mid set l y i rest t =
       let b = t.derives in
-      let es : labels_of (Among set) ≡ marked (these (v ∷ l.numbers)) = ap (λ (s : ℕ). labels_of (Among s)) l.is in
+      let es : labels_of (Among set) ≡ marked (these (v ∷ l.labels)) = ap (λ (s : ℕ). labels_of (Among s)) l.is in
       record {
-        tree = one (record { labels = marked (these (v ∷ l.numbers)); test = t.test });
-        derives = asserted (numbers e (subst (λ (z : List Word). MoreLabels ws l.numbers z) (t.is ∙ ap (λ (z : List Word). t.sign ∷ z) b.3) l.derives)) t.is_colon b.4 b.5 b.6;
-        goes = λ m k h. number_first m k h ∙ l.goes (with_parts m (suc m.parts)) (colon ∷ bracketed ∷ k) (let q = h.nested in omega arith) ∙ t.goes (with_parts m (suc m.parts)) k (counted_part x left m k h);
+        tree = one (record { labels = marked (these (v ∷ l.labels)); test = t.test });
+        derives = asserted (numbers e (subst (λ (z : List Word). MoreLabels ws l.labels z) (t.is ∙ ap (λ (z : List Word). t.sign ∷ z) b.3) l.derives)) t.is_colon b.4 b.5 b.6;
+        goes = λ m k h. number_first m k h ∙ l.over (with_parts m (suc m.parts)) (colon ∷ bracketed ∷ k) (let q = h.nested in omega arith) ∙ t.goes (with_parts m (suc m.parts)) k (counted_part x left m k h);
         grown = subst (λ (q : _). Drawn x y (one (record { labels = q; test = t.test })) i) es t.grown;
       }
 
-  pub number_labels_stopped : (end : ℕ) (f : Fault) → Stopped (LabelsStop ws) end f → Stopped (Stops x left (unit ∷ []) (w ∷ ws)) end f
-  number_labels_stopped end f s = stopped_on end f (λ c u t m k h. number_first m k h ∙ t (with_parts m (suc m.parts)) (colon ∷ bracketed ∷ k) (let q = h.nested in omega arith)) s
+  pub number_labels_stopped : (end : ℕ) (f : Fault) → LabelStops (more_labels ∷ []) end ws f → Stopped (Stops x left (unit ∷ []) (w ∷ ws)) end f
+  number_labels_stopped end f s = record { words = s.words; place_is = s.place_is; stops = λ m k h. number_first m k h ∙ s.stops (with_parts m (suc m.parts)) (colon ∷ bracketed ∷ k) (let q = h.nested in omega arith) }
 
-  pub number_stopped : (mid : List Word) (set : ℕ) → LabelsRead (with 0 v) ws set mid → (end : ℕ) (f : Fault) → Stopped (TestedStops x left mid) end f → Stopped (Stops x left (unit ∷ []) (w ∷ ws)) end f
-  number_stopped mid set l end f s = stopped_on end f (λ c u t m k h. number_first m k h ∙ l.goes (with_parts m (suc m.parts)) (colon ∷ bracketed ∷ k) (let q = h.nested in omega arith) ∙ t (with_parts m (suc m.parts)) k (counted_part x left m k h)) s
+  pub number_stopped : (mid : List Word) (set : ℕ) → MoreRead (with 0 v) ws set mid → (end : ℕ) (f : Fault) → Stopped (TestedStops x left mid) end f → Stopped (Stops x left (unit ∷ []) (w ∷ ws)) end f
+  number_stopped mid set l end f s = stopped_on end f (λ c u t m k h. number_first m k h ∙ l.over (with_parts m (suc m.parts)) (colon ∷ bracketed ∷ k) (let q = h.nested in omega arith) ∙ t (with_parts m (suc m.parts)) k (counted_part x left m k h)) s
 
-pub number_too_large : (x : Draft) (left v : ℕ) (w : Word) → w.token ≡ Number v → (ws : List Word) → 63 < v → (end : ℕ) (f : Fault) → f.cause ≡ Numbered → f.place ≡ w.place → Stopped (Stops x left (unit ∷ []) (w ∷ ws)) end f
-number_too_large x left v w e ws l end f a b = stopped_by (Stops x left (unit ∷ []) (w ∷ ws)) end f Numbered (w ∷ ws) a b (λ m k h. number_large v x left w e ws l m k)
+pub number_too_large : (x : Draft) (left v : ℕ) (w : Word) → w.token ≡ Number v → (ws : List Word) (end : ℕ) (f : Fault) → NoLabel v w f → Stopped (Stops x left (unit ∷ []) (w ∷ ws)) end f
+number_too_large x left v w e ws end f n = stopped_by (Stops x left (unit ∷ []) (w ∷ ws)) end f Numbered (w ∷ ws) n.cause_is n.place_is (λ m k h. number_large v x left w e ws n.large m k)
 
-pub number_too_many : (x : Draft) (left v : ℕ) (w : Word) → w.token ≡ Number v → (ws : List Word) → v ≤ 63 → 60 ≤ vec_len x.leaves → (end : ℕ) (f : Fault) → f.cause ≡ Many → f.place ≡ w.place → Stopped (Stops x left (unit ∷ []) (w ∷ ws)) end f
-number_too_many x left v w e ws s l end f a b = stopped_by (Stops x left (unit ∷ []) (w ∷ ws)) end f Many (w ∷ ws) a b (λ m k h. number_many v x left w e ws s l m k k h)
+pub number_too_many : (x : Draft) (left v : ℕ) (w : Word) → w.token ≡ Number v → (ws : List Word) → v < 64 → (end : ℕ) (f : Fault) → NoRoom x w.place f → Stopped (Stops x left (unit ∷ []) (w ∷ ws)) end f
+number_too_many x left v w e ws s end f n = stopped_by (Stops x left (unit ∷ []) (w ∷ ws)) end f Many (w ∷ ws) n.cause_is n.place_is (λ m k h. number_many v x left w e ws s n.full m k k h)
 
 -- the empty sequence
-pub empty_many : (x : Draft) (left : ℕ) (w : Word) → w.token ≡ Empty → (ws : List Word) → 256 ≤ x.signs → (end : ℕ) (f : Fault) → f.cause ≡ Many → f.place ≡ w.place → Stopped (Stops x left (unit ∷ []) (w ∷ ws)) end f
-empty_many x left w e ws l end f a b = stopped_by (Stops x left (unit ∷ []) (w ∷ ws)) end f Many (w ∷ ws) a b (λ m k h. sign_stops_at unit Empty [] (λ p. refl) x left w e ws l m k k h)
+pub empty_many : (x : Draft) (left : ℕ) (w : Word) → w.token ≡ Empty → (ws : List Word) (end : ℕ) (f : Fault) → TooMany x w.place f → Stopped (Stops x left (unit ∷ []) (w ∷ ws)) end f
+empty_many x left w e ws end f n = stopped_by (Stops x left (unit ∷ []) (w ∷ ws)) end f Many (w ∷ ws) n.cause_is n.place_is (λ m k h. sign_stops_at unit Empty [] (λ p. refl) x left w e ws n.full m k k h)
 
-pub empty_read : (x y z : Draft) (left : ℕ) (w : Word) → w.token ≡ Empty → (ws : List Word) (i : ℕ) → SameParts x y → y.signs ≡ suc x.signs → Pushed y z EmptyNode i → UnitRead x left (w ∷ ws) z i ws
-empty_read x y z left w e ws i s q p = record {
-  tree = empty;
-  derives = is_empty e;
-  goes = λ m k h. sign_goes_at unit Empty [] (λ p. refl) x left w e ws z (let c = y.few.1 in omega arith) (ap (λ (t : Expressions). t.counted) (p.tests ∙ s.tests)) (p.leaf_count ∙ s.leaf_count) (p.signs ∙ q) m k k h (let n = h.nested in omega arith);
-  grown = grown_empty x y z i s q p;
-}
+pub empty_read : (x z : Draft) (left : ℕ) (w : Word) → w.token ≡ Empty → (ws : List Word) (i : ℕ) → Noded x z EmptyNode i → UnitRead x left (w ∷ ws) z i ws
+empty_read x z left w e ws i n =
+    let s = n.same in
+    let p = n.pushed in
+    record {
+      tree = empty;
+      derives = is_empty e;
+      goes = λ m k h. sign_goes_at unit Empty [] (λ p. refl) x left w e ws z (let c = n.between.few.1 in let q = n.counted in omega arith) (ap (λ (t : Expressions). t.counted) (p.tests ∙ s.tests)) (p.leaf_count ∙ s.leaf_count) (p.signs ∙ n.counted) m k k h (let q = h.nested in omega arith);
+      grown = grown_empty x n.between z i s n.counted p;
+    }

@@ -1,5 +1,4 @@
 pub mod Turns
-pub mod Passing
 pub mod Laying
 pub mod Growing
 pub mod Leaves

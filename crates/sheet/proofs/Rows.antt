@@ -1,6 +1,6 @@
 -- What the readers of items, rows and alternatives have read, put together from their parts. Assumes nothing.
-use Rattle.std.proofs.Common.{◌≡◌, ℕ, suc, ◌-◌, ◌<◌, ◌≤◌, List, [], ◌∷◌, length, vec_len, sym, refl, ap, ◌∙◌, subst, inl, arith, lit≤}
-use Rattle.model.specs.declared.refusal.Cause.{Cause}
+use Rattle.std.proofs.Common.{◌≡◌, ℕ, suc, ◌<◌, ◌≤◌, true, List, [], ◌∷◌, length, vec_len, sym, refl, ap, ◌∙◌, ◌⊎◌, subst, inl, inr, arith, lit≤}
+use Rattle.grammar.specs.Answers.{fault}
 use Rattle.model.specs.declared.refusal.Cause.TheVariants.{Many, Deep}
 use Rattle.text.specs.declared.expressions.Expressions.{Expressions}
 use Rattle.text.specs.declared.reading.Fault.{Fault}
@@ -12,8 +12,10 @@ use Rattle.text.specs.LabelSets.{LabelSet, MoreLabels, no_comma, comma, Labels, 
 use Rattle.text.proofs.Conditions.{tests_shorter}
 use Rattle.text.specs.Table.{Item, unit, repeats, group}
 use Rattle.text.specs.Charges.{Memo, open_in}
-use Rattle.text.specs.Reading.{reads, cause_of, FaultAt, Skipped, Unlike}
-use Rattle.text.proofs.Tests.{is_token}
+use Rattle.text.specs.declared.reading.Limits.{Limits}
+use Rattle.text.specs.Words.{at}
+use Rattle.text.specs.Reading.{reads, cause_of, FaultAt, Skipped, Unlike, Deeper, TooDeep}
+use Rattle.text.proofs.Tests.{is_token, kinds_differ}
 use Rattle.text.proofs.Going.{refuses, leaves_out}
 use Rattle.regular.specs.Words.{Regex, sequence, alternative, star, plus}
 use Rattle.sheet.specs.declared.tree.Node.{Node}
@@ -21,22 +23,13 @@ use Rattle.sheet.specs.declared.tree.Node.TheVariants.{Sequence, Alternative, St
 use Rattle.sheet.specs.declared.draft.Draft.{Draft}
 use Rattle.sheet.specs.Texts.{NoItem, Part, Derives, is_empty, asserted, item, repeated, row, onto, choice, or_else, in_parens, not_repeated, starred, plussed, in_a_row, row_ends, next_in_row, chosen, no_bar, barred}
 use Rattle.sheet.specs.Drafts.{SameParts, Pushed, Drawn}
-use Rattle.sheet.specs.Owed.{Now, noted, Stops, Tail, RowStops, TailGoes, TailStops, Stopped, UnitRead, RepeatsRead, RepeatsStop, Noded, TooMany, ItemRead, ItemBegins, NextItem, RowRead, NextRow}
+use Rattle.sheet.specs.Owed.{Now, noted, Stops, Tail, RowStops, TailGoes, TailStops, Stopped, UnitRead, RepeatsRead, RepeatsStop, RepeatSign, Noded, TooMany, ItemRead, ItemBegins, NextItem, RowRead, NextRow}
 use Rattle.sheet.proofs.Tabled.{quiet_repeats}
-use Rattle.sheet.proofs.Going.{tail_loop, noted_here, noted_same, sign_goes, sign_stops, quiet_unit, open_goes, open_deep, close_goes, close_stops, loop_item}
+use Rattle.sheet.proofs.Going.{tail_loop, noted_here, sign_goes, sign_stops, quiet_unit, open_goes, open_deep, close_goes, close_stops, loop_item}
 use Rattle.sheet.proofs.Drafted.{drawn_star, drawn_plus, drawn_sequence, drawn_alternative, grown_signed}
 use Rattle.sheet.proofs.Items.{stopped_by, stopped_on}
 
 -- `*` and `+`
-pub repeats_none : (x : Draft) (ws : List Word) (i : ℕ) → Free (Star ∷ Plus ∷ []) ws → RepeatsRead x ws i x i ws
-repeats_none x ws i f = record {
-  goes = λ left m k h. leaves_out repeats refl ws (quiet_repeats ws f) m k ∙ ap (λ (n : Memo). reads ws n k) (noted_same x left m k h);
-  grows = λ d e g. (e, not_repeated f, g);
-}
-
-pub repeats_at : {x z : Draft} {i j : ℕ} {rest : List Word} (us vs : List Word) → us ≡ vs → RepeatsRead x vs i z j rest → RepeatsRead x us i z j rest
-repeats_at {x} {z} {i} {j} {rest} us vs e r = subst (λ (ws : List Word). RepeatsRead x ws i z j rest) (sym e) r
-
 -- what a node for a sign counts
 noded_counted : {x y : Draft} {node : Node} {j : ℕ} (n : Noded x y node j) → y.tests.counted ≡ x.tests.counted
 noded_counted n = ap (λ (t : Expressions). t.counted) (n.pushed.tests ∙ n.same.tests)
@@ -56,29 +49,53 @@ star_first x y w ws node j e n left m k h = sign_goes repeats Star (repeats ∷ 
 plus_first : (x y : Draft) (w : Word) (ws : List Word) (node : Node) (j : ℕ) → w.token ≡ Plus → Noded x y node j → (left : ℕ) (m : Memo) (k : List Item) → Now x left m k → reads (w ∷ ws) m (repeats ∷ k) ≡ reads ws (noted m y) (repeats ∷ k)
 plus_first x y w ws node j e n left m k h = sign_goes repeats Plus (repeats ∷ []) (λ p. refl) x left w e ws y (noded_few n) (noded_counted n) (noded_parts n) (noded_signs n) m k k h (let q = h.nested in omega arith)
 
-pub repeats_star : (x y z : Draft) (w : Word) (ws : List Word) (i j h : ℕ) (rest : List Word) → w.token ≡ Star → Noded x y (StarNode i) j → RepeatsRead y ws j z h rest → RepeatsRead x (w ∷ ws) i z h rest
-repeats_star x y z w ws i j h rest e n r = record {
-  goes = λ left m k a. star_first x y w ws (StarNode i) j e n left m k a ∙ r.goes left (noted m y) k (noted_here y left m k a);
-  grows = λ d t g. let q = r.grows d (star t) (drawn_star d x n.between y t i j g n.same n.counted n.pushed) in (q.0, starred e q.1, q.2);
+-- turns of the loop over the signs behind an item: from ws with an item at index i to rest with one at index j
+pub record Repeating (x : Draft) (i : ℕ) (ws : List Word) (y : Draft) (j : ℕ) (rest : List Word) : Type 0 where
+  pub goes : (left : ℕ) (m : Memo) (k : List Item) → Now x left m k → reads ws m (repeats ∷ k) ≡ reads rest (noted m y) (repeats ∷ k)
+  pub grows : (d : Draft) (e : Regex) → Drawn d x e i → (g : Regex) × Drawn d y g j × ((f : Regex) (r : List Word) → Derives (repeated g) rest f r → Derives (repeated e) ws f r)
+
+repeating_star : (x y : Draft) (i j : ℕ) (w : Word) (ws : List Word) → w.token ≡ Star → Noded x y (StarNode i) j → Repeating x i (w ∷ ws) y j ws
+repeating_star x y i j w ws e n = record {
+  goes = λ left m k h. star_first x y w ws (StarNode i) j e n left m k h;
+  grows = λ d t g. (star t, drawn_star d x n.between y t i j g n.same n.counted n.pushed, λ f r q. starred e q);
 }
 
-pub repeats_plus : (x y z : Draft) (w : Word) (ws : List Word) (i j h : ℕ) (rest : List Word) → w.token ≡ Plus → Noded x y (PlusNode i) j → RepeatsRead y ws j z h rest → RepeatsRead x (w ∷ ws) i z h rest
-repeats_plus x y z w ws i j h rest e n r = record {
-  goes = λ left m k a. plus_first x y w ws (PlusNode i) j e n left m k a ∙ r.goes left (noted m y) k (noted_here y left m k a);
-  grows = λ d t g. let q = r.grows d (plus t) (drawn_plus d x n.between y t i j g n.same n.counted n.pushed) in (q.0, plussed e q.1, q.2);
+repeating_plus : (x y : Draft) (i j : ℕ) (w : Word) (ws : List Word) → w.token ≡ Plus → Noded x y (PlusNode i) j → Repeating x i (w ∷ ws) y j ws
+repeating_plus x y i j w ws e n = record {
+  goes = λ left m k h. plus_first x y w ws (PlusNode i) j e n left m k h;
+  grows = λ d t g. (plus t, drawn_plus d x n.between y t i j g n.same n.counted n.pushed, λ f r q. plussed e q);
 }
 
-pub star_stops : (x y : Draft) (w : Word) (ws : List Word) (node : Node) (j : ℕ) → w.token ≡ Star → Noded x y node j → (c : Cause) (v : List Word) → RepeatsStop y ws c v → RepeatsStop x (w ∷ ws) c v
-star_stops x y w ws node j e n c v s left m k a = star_first x y w ws node j e n left m k a ∙ s left (noted m y) k (noted_here y left m k a)
+repeating_sign : (x y : Draft) (i j : ℕ) (ws : List Word) (node : Node) (w : Word) (rest : List Word) → RepeatSign i ws node w rest → Noded x y node j → Repeating x i ws y j rest
+repeating_sign x y i j ws node w rest s n =
+    subst (λ (v : List Word). Repeating x i v y j rest) (sym s.words)
+    (elim s.sign [
+      | inl a ↦ repeating_star x y i j w rest a.0 (subst (λ (o : Node). Noded x y o j) a.1 n)
+      | inr a ↦ repeating_plus x y i j w rest a.0 (subst (λ (o : Node). Noded x y o j) a.1 n)
+    ])
 
-pub plus_stops : (x y : Draft) (w : Word) (ws : List Word) (node : Node) (j : ℕ) → w.token ≡ Plus → Noded x y node j → (c : Cause) (v : List Word) → RepeatsStop y ws c v → RepeatsStop x (w ∷ ws) c v
-plus_stops x y w ws node j e n c v s left m k a = plus_first x y w ws node j e n left m k a ∙ s left (noted m y) k (noted_here y left m k a)
+pub repeating_more : (x : Draft) (i : ℕ) (ws : List Word) (y : Draft) (j : ℕ) (mid : List Word) (z : Draft) (h : ℕ) (node : Node) (w : Word) (rest : List Word) → Repeating x i ws y j mid → RepeatSign j mid node w rest → Noded y z node h → Repeating x i ws z h rest
+repeating_more x i ws y j mid z h node w rest r s n =
+    let t = repeating_sign y z j h mid node w rest s n in
+    record {
+      goes = λ left m k a. r.goes left m k a ∙ t.goes left (noted m y) k (noted_here y left m k a);
+      grows = λ d e g. let u = r.grows d e g in let v = t.grows d u.0 u.1 in (v.0, v.1, λ f q p. u.2 f q (v.2 f q p));
+    }
 
-pub star_many : (x : Draft) (w : Word) (ws : List Word) (end : ℕ) (f : Fault) → w.token ≡ Star → TooMany x w.place f → Stopped (RepeatsStop x (w ∷ ws)) end f
-star_many x w ws end f e t = stopped_by (RepeatsStop x (w ∷ ws)) end f Many (w ∷ ws) t.cause_is t.place_is (λ left m k h. sign_stops repeats Star (repeats ∷ []) (λ p. refl) x left w e ws t.full m k k h)
+pub repeats_read : (x : Draft) (i : ℕ) (ws : List Word) (y : Draft) (j : ℕ) (rest : List Word) → Repeating x i ws y j rest → Free (Star ∷ Plus ∷ []) rest → RepeatsRead x ws i y j rest
+repeats_read x i ws y j rest r f = record {
+  goes = λ left m k h. r.goes left m k h ∙ leaves_out repeats refl rest (quiet_repeats rest f) (noted m y) k;
+  grows = λ d e g. let u = r.grows d e g in (u.0, u.2 u.0 rest (not_repeated f), u.1);
+}
 
-pub plus_many : (x : Draft) (w : Word) (ws : List Word) (end : ℕ) (f : Fault) → w.token ≡ Plus → TooMany x w.place f → Stopped (RepeatsStop x (w ∷ ws)) end f
-plus_many x w ws end f e t = stopped_by (RepeatsStop x (w ∷ ws)) end f Many (w ∷ ws) t.cause_is t.place_is (λ left m k h. sign_stops repeats Plus (repeats ∷ []) (λ p. refl) x left w e ws t.full m k k h)
+sign_many : (x : Draft) (w : Word) (ws : List Word) → (w.token ≡ Star) ⊎ (w.token ≡ Plus) → 256 ≤ x.signs → (left : ℕ) (m : Memo) (k : List Item) → Now x left m k → reads (w ∷ ws) m (repeats ∷ k) ≡ fault Many (w ∷ ws)
+sign_many x w ws (inl e) l left m k h = sign_stops repeats Star (repeats ∷ []) (λ p. refl) x left w e ws l m k k h
+sign_many x w ws (inr e) l left m k h = sign_stops repeats Plus (repeats ∷ []) (λ p. refl) x left w e ws l m k k h
+
+pub repeats_many : (x : Draft) (i : ℕ) (ws : List Word) (y : Draft) (j : ℕ) (mid : List Word) (node : Node) (w : Word) (rest : List Word) (end : ℕ) (f : Fault) → Repeating x i ws y j mid → RepeatSign j mid node w rest → TooMany y w.place f → Stopped (RepeatsStop x ws) end f
+repeats_many x i ws y j mid node w rest end f r s n =
+    let e : (w.token ≡ Star) ⊎ (w.token ≡ Plus) = elim s.sign [ inl a ↦ inl a.0 | inr a ↦ inr a.0 ] in
+    stopped_by (RepeatsStop x ws) end f Many (w ∷ rest) n.cause_is n.place_is (λ left m k h. r.goes left m k h ∙ ap (λ (v : List Word). reads v (noted m y) (repeats ∷ k)) s.words ∙ sign_many y w rest e n.full left (noted m y) k (noted_here y left m k h))
 
 -- an item with the `*` and `+` behind it
 pub item_read : (x y z : Draft) (left : ℕ) (ws mid : List Word) (i j : ℕ) (rest : List Word) → UnitRead x left ws y i mid → RepeatsRead y mid i z j rest → ItemRead x left ws z j rest
@@ -122,12 +139,6 @@ pub record Rowing (left : ℕ) (x : Draft) (i : ℕ) (ws : List Word) (y : Draft
   pub goes : TailGoes x left ws rest y
   pub grows : (d : Draft) (e : Regex) → Drawn d x e i → (g : Regex) × Drawn d y g j × ((f : Regex) (r : List Word) → Derives (onto g) rest f r → Derives (onto e) ws f r)
 
-pub rowing_none : (left : ℕ) (x : Draft) (i : ℕ) (ws : List Word) → Rowing left x i ws x i ws
-rowing_none left x i ws = record {
-  goes = λ m k z t h. ap (λ (n : Memo). reads ws n (z ∷ k)) (noted_same x left m (z ∷ k) h);
-  grows = λ d e g. (e, g, λ f r q. q);
-}
-
 item_at : (z : Item) → Tail z → (ws : List Word) → ItemBegins ws → (m : Memo) (k : List Item) → reads ws m (z ∷ k) ≡ reads ws m (unit ∷ repeats ∷ z ∷ k)
 item_at z t ws b m k = ap (λ (v : List Word). reads v m (z ∷ k)) b.is ∙ loop_item z (tail_loop z t) b.word b.behind b.begins m k ∙ ap (λ (v : List Word). reads v m (unit ∷ repeats ∷ z ∷ k)) (sym b.is)
 
@@ -169,19 +180,13 @@ module _ (x y : Draft) (left : ℕ) (w : Word) (e : w.token ≡ Bar) (ws : List 
   pub next_row_stopped : (end : ℕ) (f : Fault) → Stopped (RowStops y left ws) end f → Stopped (TailStops x left (w ∷ ws)) end f
   next_row_stopped end f r = stopped_on end f (λ c v t m k z a h. bar_first m k z a h ∙ t (noted m y) k z a (noted_here y left m (z ∷ k) h)) r
 
-pub next_row_many : (x : Draft) (left : ℕ) (w : Word) → w.token ≡ Bar → (ws : List Word) → 256 ≤ x.signs → (end : ℕ) (f : Fault) → f.cause ≡ Many → f.place ≡ w.place → Stopped (TailStops x left (w ∷ ws)) end f
-next_row_many x left w e ws l end f a b = stopped_by (TailStops x left (w ∷ ws)) end f Many (w ∷ ws) a b (λ m k z t h. sign_stops z Bar (unit ∷ repeats ∷ z ∷ []) (tail_loop z t).at_bar x left w e ws l m k (z ∷ k) h)
+pub next_row_many : (x : Draft) (left : ℕ) (w : Word) → w.token ≡ Bar → (ws : List Word) (end : ℕ) (f : Fault) → TooMany x w.place f → Stopped (TailStops x left (w ∷ ws)) end f
+next_row_many x left w e ws end f n = stopped_by (TailStops x left (w ∷ ws)) end f Many (w ∷ ws) n.cause_is n.place_is (λ m k z t h. sign_stops z Bar (unit ∷ repeats ∷ z ∷ []) (tail_loop z t).at_bar x left w e ws n.full m k (z ∷ k) h)
 
 -- turns of the loop over alternatives
 pub record Choosing (left : ℕ) (x : Draft) (i : ℕ) (ws : List Word) (y : Draft) (j : ℕ) (rest : List Word) : Type 0 where
   pub goes : TailGoes x left ws rest y
   pub grows : (d : Draft) (e : Regex) → Drawn d x e i → (g : Regex) × Drawn d y g j × ((f : Regex) (r : List Word) → Derives (or_else g) rest f r → Derives (or_else e) ws f r)
-
-pub choosing_none : (left : ℕ) (x : Draft) (i : ℕ) (ws : List Word) → Choosing left x i ws x i ws
-choosing_none left x i ws = record {
-  goes = λ m k z t h. ap (λ (n : Memo). reads ws n (z ∷ k)) (noted_same x left m (z ∷ k) h);
-  grows = λ d e g. (e, g, λ f r q. q);
-}
 
 pub choosing_more : (left : ℕ) (x : Draft) (i : ℕ) (ws : List Word) (y : Draft) (j : ℕ) (mid : List Word) (w : Word) (vs : List Word) (z : Draft) (h : ℕ) (rest : List Word) → Choosing left x i ws y j mid → mid ≡ w ∷ vs → w.token ≡ Bar → NextRow y left j (w ∷ vs) vs z h rest → Choosing left x i ws z h rest
 choosing_more left x i ws y j mid w vs z h rest r e b n = record {
@@ -226,14 +231,14 @@ ended (no_bar f) = (λ h. h, f)
 ended (barred e d f) = (λ _. (ended f).0 (ended d), (ended f).1)
 
 -- a group
-module _ (x : Draft) (left : ℕ) (w : Word) (e : w.token ≡ OpenParen) (ws : List Word) (l : 0 < left) where
-  inner : (m : Memo) (k : List Item) → Now x left m k → Now x (left - 1) m (group ∷ k)
-  inner m k h = record { counted = h.counted; parts = h.parts; signs = h.signs; scoped = h.scoped; nested = let n = h.nested in omega arith }
+module _ (x : Draft) (limits within : Limits) (w : Word) (e : w.token ≡ OpenParen) (ws : List Word) (l : Deeper limits within) where
+  inner : (m : Memo) (k : List Item) → Now x limits.left m k → Now x within.left m (group ∷ k)
+  inner m k h = record { counted = h.counted; parts = h.parts; signs = h.signs; scoped = h.scoped; nested = let n = h.nested in let d = l.left in omega arith }
 
-  group_first : (m : Memo) (k : List Item) → Now x left m k → reads (w ∷ ws) m (unit ∷ k) ≡ reads ws m (unit ∷ repeats ∷ group ∷ k)
-  group_first m k h = open_goes w e ws m k (let n = h.nested in omega arith)
+  group_first : (m : Memo) (k : List Item) → Now x limits.left m k → reads (w ∷ ws) m (unit ∷ k) ≡ reads ws m (unit ∷ repeats ∷ group ∷ k)
+  group_first m k h = open_goes w e ws m k (let n = h.nested in let d = l.left in omega arith)
 
-  pub group_read : (y : Draft) (i : ℕ) (mid rest : List Word) → RowRead choice x (left - 1) ws y i mid → Skipped CloseParen mid rest → UnitRead x left (w ∷ ws) y i rest
+  pub group_read : (y : Draft) (i : ℕ) (mid rest : List Word) → RowRead choice x within.left ws y i mid → Skipped CloseParen mid rest → UnitRead x limits.left (w ∷ ws) y i rest
   group_read y i mid rest r s = record {
     tree = r.tree;
     derives = in_parens e (subst (λ (v : List Word). Derives choice ws r.tree v) s.1 r.derives) (is_token s.0.token CloseParen (lit≤ tt) refl s.2);
@@ -241,16 +246,16 @@ module _ (x : Draft) (left : ℕ) (w : Word) (e : w.token ≡ OpenParen) (ws : L
     grown = r.grown;
   }
 
-  pub group_inner_stopped : (end : ℕ) (f : Fault) → Stopped (RowStops x (left - 1) ws) end f → Stopped (Stops x left (unit ∷ []) (w ∷ ws)) end f
-  group_inner_stopped end f s = stopped_on end f (λ c v t m k h. group_first m k h ∙ t m k group (inl refl) (inner m k h)) s
+  pub group_inner_stopped : (f : Fault) → Stopped (RowStops x within.left ws) within.end f → Stopped (Stops x limits.left (unit ∷ []) (w ∷ ws)) limits.end f
+  group_inner_stopped f s = subst (λ (end : ℕ). Stopped (Stops x limits.left (unit ∷ []) (w ∷ ws)) end f) l.end (stopped_on within.end f (λ c v t m k h. group_first m k h ∙ t m k group (inl refl) (inner m k h)) s)
 
-  pub group_open : (y : Draft) (i : ℕ) (mid : List Word) (end : ℕ) (f : Fault) → RowRead choice x (left - 1) ws y i mid → Unlike CloseParen mid → FaultAt end mid f → Stopped (Stops x left (unit ∷ []) (w ∷ ws)) end f
+  pub group_open : (y : Draft) (i : ℕ) (mid : List Word) (end : ℕ) (f : Fault) → RowRead choice x within.left ws y i mid → Unlike CloseParen mid → FaultAt end mid f → Stopped (Stops x limits.left (unit ∷ []) (w ∷ ws)) end f
   group_open y i mid end f r u a =
       let z = ended r.derives in
-      stopped_by (Stops x left (unit ∷ []) (w ∷ ws)) end f (cause_of mid) mid a.cause_is a.place_is (λ m k h. group_first m k h ∙ r.goes m k group (inl refl) (inner m k h) ∙ close_stops mid u z.0 z.1 (noted m y) k)
+      stopped_by (Stops x limits.left (unit ∷ []) (w ∷ ws)) end f (cause_of mid) mid a.cause_is a.place_is (λ m k h. group_first m k h ∙ r.goes m k group (inl refl) (inner m k h) ∙ close_stops mid u z.0 z.1 (noted m y) k)
 
-pub group_deep : (x : Draft) (left : ℕ) (w : Word) → w.token ≡ OpenParen → (ws : List Word) → left ≡ 0 → (end : ℕ) (f : Fault) → f.cause ≡ Deep → f.place ≡ w.place → Stopped (Stops x left (unit ∷ []) (w ∷ ws)) end f
-group_deep x left w e ws l end f a b = stopped_by (Stops x left (unit ∷ []) (w ∷ ws)) end f Deep (w ∷ ws) a b (λ m k h. open_deep w e ws m k (let n = h.nested in omega arith))
+pub group_deep : (x : Draft) (limits : Limits) (w : Word) → w.token ≡ OpenParen → (ws : List Word) (end : ℕ) (f : Fault) → TooDeep limits w f → Stopped (Stops x limits.left (unit ∷ []) (w ∷ ws)) end f
+group_deep x limits w e ws end f d = stopped_by (Stops x limits.left (unit ∷ []) (w ∷ ws)) end f Deep (w ∷ ws) d.cause_is d.place_is (λ m k h. open_deep w e ws m k (let n = h.nested in let l = d.none_left in omega arith))
 
 pub unit_refused : (x : Draft) (left : ℕ) (ws : List Word) (end : ℕ) (f : Fault) → NoItem ws → FaultAt end ws f → Stopped (Stops x left (unit ∷ []) ws) end f
 unit_refused x left ws end f q a = stopped_by (Stops x left (unit ∷ []) ws) end f (cause_of ws) ws a.cause_is a.place_is (λ m k h. refuses unit refl ws (quiet_unit ws q) m k)
@@ -291,3 +296,11 @@ shorter (next_in_row d f g) = let p = shorter d in let q = shorter f in let r = 
 shorter (chosen d f) = let p = shorter d in let q = shorter f in omega arith
 shorter (no_bar f) = omega arith
 shorter (barred e d f) = let p = shorter d in let q = shorter f in omega arith
+
+-- no `|` follows
+pub free_bar : (ws : List Word) → Unlike Bar ws → Free (Bar ∷ []) ws
+free_bar [] u = tt
+free_bar (w ∷ ws) u = (kinds_differ w.token Bar u, tt)
+
+pub is_bar : (w : Word) → at Bar w ≡ true → w.token ≡ Bar
+is_bar w e = is_token w.token Bar (lit≤ tt) refl e

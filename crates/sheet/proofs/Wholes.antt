@@ -1,12 +1,14 @@
 -- What the readers of `rest` and of a whole sheet have read. Assumes nothing.
-use Rattle.std.proofs.Common.{◌≡◌, ℕ, suc, ◌<◌, ◌≤◌, List, [], ◌∷◌, length, vec_len, sym, refl, ap, ◌∙◌, subst, inr, arith}
+use Rattle.std.proofs.Common.{◌≡◌, ℕ, suc, ◌<◌, List, [], ◌∷◌, length, vec_len, sym, refl, ap, ◌∙◌, subst, inr, arith}
 use Rattle.grammar.specs.Answers.{fault, good}
 use Rattle.grammar.proofs.Steps.{reading_good}
 use Rattle.model.specs.declared.refusal.Cause.TheVariants.{Many}
 use Rattle.text.specs.declared.expressions.Expressions.{Expressions}
 use Rattle.text.specs.declared.reading.Fault.{Fault}
 use Rattle.text.specs.declared.word.Token.TheVariants.{Rest}
+use Rattle.text.specs.declared.reading.Limits.{Limits}
 use Rattle.text.specs.declared.word.Word.{Word}
+use Rattle.text.specs.declared.word.Scope.{Scope}
 use Rattle.text.specs.Table.{unit, repeats, expression, table}
 use Rattle.text.specs.Charges.{Memo, causes, with_parts}
 use Rattle.text.specs.Reading.{reads, cause_of, FaultAt}
@@ -17,7 +19,7 @@ use Rattle.sheet.specs.declared.draft.Draft.{Draft}
 use Rattle.sheet.specs.Flat.{any}
 use Rattle.sheet.specs.Texts.{NoItem, Derives, choice, strict, rested}
 use Rattle.sheet.specs.Drafts.{Pushed, Asserted, Grown}
-use Rattle.sheet.specs.Owed.{Now, noted, RowStops, Stopped, RowRead, RestRead, RestStops, WholeRead, WholeStops}
+use Rattle.sheet.specs.Owed.{Now, noted, RowStops, Stopped, NoRoom, RowRead, RestRead, RestStops, WholeRead, WholeStops}
 use Rattle.sheet.proofs.Going.{noted_here, as_counted, part_goes, part_stops, nothing_owed, end_good, end_stops}
 use Rattle.sheet.proofs.Drafted.{same_ariths, same_tests, grown_star, grown_sequence}
 use Rattle.sheet.proofs.Items.{stopped_by, stopped_on}
@@ -40,8 +42,8 @@ grown_anything x y i a = record {
 }
 
 module _ (x : Draft) (w : Word) (e : w.token ≡ Rest) (ws : List Word) where
-  pub rest_many : 60 ≤ vec_len x.leaves → (end : ℕ) (f : Fault) → f.cause ≡ Many → f.place ≡ w.place → Stopped (RestStops x (w ∷ ws)) end f
-  rest_many l end f a b = stopped_by (RestStops x (w ∷ ws)) end f Many (w ∷ ws) a b (λ m h. part_stops expression Rest [] (λ p. refl) x 16 w e ws l m [] (expression ∷ []) h)
+  pub rest_many : (end : ℕ) (f : Fault) → NoRoom x w.place f → Stopped (RestStops x (w ∷ ws)) end f
+  rest_many end f n = stopped_by (RestStops x (w ∷ ws)) end f Many (w ∷ ws) n.cause_is n.place_is (λ m h. part_stops expression Rest [] (λ p. refl) x 16 w e ws n.full m [] (expression ∷ []) h)
 
   module _ (few : vec_len x.leaves < 60) where
     rest_first : (m : Memo) → Now x 16 m (expression ∷ []) → reads (w ∷ ws) m (expression ∷ []) ≡ reads ws (with_parts m (suc m.parts)) []
@@ -61,6 +63,10 @@ module _ (x : Draft) (w : Word) (e : w.token ≡ Rest) (ws : List Word) where
       index = h;
       grows = λ d t g. grown_sequence d x b y t (star (one any)) i k h g (grown_star x a b (one any) j k (grown_anything x a j p) q) r;
     }
+
+-- what is so with the limits of a whole text
+pub from_new : {l : Limits} {s : Scope} {end : ℕ} → l ≡ record { scope = s; end = end; left = 16 } → (P : ℕ → ℕ → Type 0) → P l.left l.end → P 16 end
+from_new e P h = subst (λ (l : Limits). P l.left l.end) e h
 
 -- a whole sheet
 module _ (x y : Draft) (ws : List Word) (i : ℕ) (rest : List Word) (r : RowRead choice x 16 ws y i rest) where

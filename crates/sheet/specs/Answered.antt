@@ -5,6 +5,7 @@ use Rattle.model.specs.declared.refusal.Cause.{Cause}
 use Rattle.model.specs.declared.refusal.Cause.TheVariants.{Length}
 use Rattle.model.specs.declared.refusal.Layer.TheVariants.{Sheet as SheetLayer}
 use Rattle.model.specs.declared.refusal.Refusal.{Refusal}
+use Rattle.text.specs.declared.reading.Fault.{Fault}
 use Rattle.text.specs.declared.word.Word.{Word}
 use Rattle.lexing.specs.Lexing.{words}
 use Rattle.text.specs.Table.{table, sheet_start}
@@ -52,6 +53,10 @@ pub record Faulty (bs : List ℕ) (f : Refusal) : Type 0 where
 -- a text that is too long
 abbrev pub TooLong : List ℕ → Refusal → Type 0
 TooLong bs f = (4096 < length bs) × (f ≡ record { layer = SheetLayer; cause = Length; place = 4096 })
+
+-- the refusal of a sheet with this fault
+abbrev pub refused : Fault → Refusal
+refused f = record { layer = SheetLayer; cause = f.cause; place = f.place }
 
 -- what is answered to a text
 abbrev pub Answered : List ℕ → Result Sheet Refusal → Type 0

@@ -1,5 +1,5 @@
 -- What counting and adding change in a draft, and which expression has been laid down in it. Assumes nothing.
-use Rattle.std.specs.Prelude.{◌≡◌, ℕ, suc, ◌+◌, ◌*◌, ◌≤◌, Bool, true, false, List, [], ◌∷◌, ◌++◌, vec_items, vec_len}
+use Rattle.std.specs.Prelude.{◌≡◌, ℕ, suc, ◌+◌, ◌*◌, ◌≤◌, List, [], ◌∷◌, ◌++◌, vec_items, vec_len}
 use Rattle.text.specs.declared.node.ArithNode.{ArithNode}
 use Rattle.text.specs.declared.node.TestNode.{TestNode}
 use Rattle.text.specs.Nodes.{TestAt}
@@ -20,10 +20,9 @@ pub record SameParts (x y : Draft) : Type 0 where
   pub leaf_count : vec_len y.leaves ≡ vec_len x.leaves
   pub tests : y.tests ≡ x.tests
 
--- one more sign is counted, or 256 are
-abbrev pub Signed : Draft → Draft → Bool → Type 0
-Signed x y true = SameParts x y × (y.signs ≡ suc x.signs)
-Signed x y false = 256 ≤ x.signs
+-- one more sign is counted
+abbrev pub Signed : Draft → Draft → Type 0
+Signed x y = SameParts x y × (y.signs ≡ suc x.signs)
 
 -- the node stands at the end, and the rest is as it was
 pub record Pushed (x y : Draft) (node : Node) (index : ℕ) : Type 0 where

@@ -1,24 +1,26 @@
 -- What the reading functions of sheets owe to one another. Assumes nothing.
-use Rattle.std.specs.Prelude.{◌≡◌, ℕ, suc, ◌+◌, ◌≤◌, ◌⊎◌, List, [], ◌∷◌, ◌++◌, vec_len}
+use Rattle.std.specs.Prelude.{◌≡◌, ℕ, suc, ◌+◌, ◌≤◌, ◌⊎◌, List, [], ◌∷◌, ◌++◌, Result, MatchResult, vec_len}
 use Rattle.grammar.specs.Answers.{fault, good}
 use Rattle.model.specs.declared.refusal.Cause.{Cause}
 use Rattle.model.specs.declared.refusal.Cause.TheVariants.{Many}
 use Rattle.text.specs.declared.reading.Fault.{Fault}
-use Rattle.text.specs.declared.word.Token.TheVariants.{Number, Empty, OpenParen, OpenBracket, CloseBracket, Colon, Question}
+use Rattle.text.specs.declared.reading.Limits.{Limits}
+use Rattle.text.specs.declared.reading.Read.{Read}
+use Rattle.text.specs.declared.word.Token.TheVariants.{Number, Empty, OpenParen, OpenBracket, CloseBracket, Colon, Question, Star, Plus}
 use Rattle.text.specs.declared.word.Word.{Word}
 use Rattle.text.specs.declared.word.Scope.TheVariants.{Every}
 use Rattle.text.specs.Expressions.{Test}
 use Rattle.text.specs.Derivations.{Condition}
-use Rattle.text.specs.LabelSets.{MoreLabels}
-use Rattle.text.specs.Table.{Item, unit, repeats, group, expression, more_labels, colon, bracketed}
+use Rattle.text.specs.Table.{Item, unit, repeats, group, expression, colon, bracketed}
 use Rattle.text.specs.Charges.{Memo, open_in, counting, with_parts, with_signs}
 use Rattle.text.specs.Reading.{reads, place_of}
 use Rattle.regular.specs.Words.{Regex, one, sequence, alternative, with_rest}
 use Rattle.sheet.specs.declared.tree.Labels.{Labels}
 use Rattle.sheet.specs.declared.tree.Node.{Node}
+use Rattle.sheet.specs.declared.tree.Node.TheVariants.{Star as StarNode, Plus as PlusNode}
 use Rattle.sheet.specs.declared.draft.Draft.{Draft}
 use Rattle.sheet.specs.Parts.{labels_of}
-use Rattle.sheet.specs.Texts.{collected, Part, item, repeated, row, Derives, SheetText}
+use Rattle.sheet.specs.Texts.{Part, item, repeated, row, Derives, SheetText}
 use Rattle.sheet.specs.Drafts.{SameParts, Pushed, Grown, Drawn}
 
 -- so many words of expressions, assertions and signs are counted, every register may stand, and so many more may be opened
@@ -63,16 +65,6 @@ pub record Stopped (S : Cause → List Word → Type 0) (end : ℕ) (f : Fault) 
   pub place_is : f.place ≡ place_of end words
   pub stops : S f.cause words
 
--- more labels have been read onto a set
-pub record LabelsRead (s : ℕ) (ws : List Word) (r : ℕ) (rest : List Word) : Type 0 where
-  pub numbers : List ℕ
-  pub derives : MoreLabels ws numbers rest
-  pub is : r ≡ collected s numbers
-  pub goes : (m : Memo) (k : List Item) → open_in k ≤ 16 → reads ws m (more_labels ∷ k) ≡ reads rest m k
-
-abbrev pub LabelsStop : List Word → Cause → List Word → Type 0
-LabelsStop ws c v = (m : Memo) (k : List Item) → open_in k ≤ 16 → reads ws m (more_labels ∷ k) ≡ fault c v
-
 -- [ B ]
 abbrev pub Bracketed : List Word → Test → List Word → Type 0
 Bracketed ws t rest = (o : Word) × (d : Word) × (inner : List Word) × (ws ≡ o ∷ inner) × (o.token ≡ OpenBracket) × Condition inner t (d ∷ rest) × (d.token ≡ CloseBracket)
@@ -98,6 +90,10 @@ pub record UnitRead (x : Draft) (left : ℕ) (ws : List Word) (y : Draft) (i : �
   pub goes : Goes x left (unit ∷ []) ws rest y
   pub grown : Drawn x y tree i
 
+-- what the reader of an item answers, without the `*` and `+` behind it
+abbrev pub UnitAnswer : Draft → Limits → List Word → Draft → Result Read Fault → Type 0
+UnitAnswer x l ws y answer = MatchResult answer (λ r. UnitRead x l.left ws y r.index r.rest.now) (Stopped (Stops x l.left (unit ∷ []) ws) l.end)
+
 -- the `*` and `+` behind the item at index i have been read
 pub record RepeatsRead (x : Draft) (ws : List Word) (i : ℕ) (y : Draft) (j : ℕ) (rest : List Word) : Type 0 where
   pub goes : (left : ℕ) → Goes x left (repeats ∷ []) ws rest y
@@ -116,6 +112,11 @@ pub record ItemRead (x : Draft) (left : ℕ) (ws : List Word) (y : Draft) (i : �
 abbrev pub RepeatsStop : Draft → List Word → Cause → List Word → Type 0
 RepeatsStop x ws c v = (left : ℕ) → Stops x left (repeats ∷ []) ws c v
 
+-- the words begin with `*` or `+`, and the node is that of the repeated item at index i
+pub record RepeatSign (i : ℕ) (ws : List Word) (node : Node) (w : Word) (rest : List Word) : Type 0 where
+  pub words : ws ≡ w ∷ rest
+  pub sign : ((w.token ≡ Star) × (node ≡ StarNode i)) ⊎ ((w.token ≡ Plus) × (node ≡ PlusNode i))
+
 -- a node has been added for a sign that has been counted
 pub record Noded (x y : Draft) (node : Node) (j : ℕ) : Type 0 where
   pub between : Draft
@@ -126,6 +127,12 @@ pub record Noded (x y : Draft) (node : Node) (j : ℕ) : Type 0 where
 -- 256 signs have been counted, and this is one more
 pub record TooMany (x : Draft) (place : ℕ) (f : Fault) : Type 0 where
   pub full : 256 ≤ x.signs
+  pub cause_is : f.cause ≡ Many
+  pub place_is : f.place ≡ place
+
+-- there are 60 assertions, and this is one more
+pub record NoRoom (x : Draft) (place : ℕ) (f : Fault) : Type 0 where
+  pub full : 60 ≤ vec_len x.leaves
   pub cause_is : f.cause ≡ Many
   pub place_is : f.place ≡ place
 
@@ -159,6 +166,10 @@ pub record RowRead (p : Part) (x : Draft) (left : ℕ) (ws : List Word) (y : Dra
   pub derives : Derives p ws tree rest
   pub goes : RowGoes x left ws rest y
   pub grown : Drawn x y tree i
+
+-- what the reader of a row, or of alternatives, answers
+abbrev pub RowAnswer : Part → Draft → Limits → List Word → Draft → Result Read Fault → Type 0
+RowAnswer p x l ws y answer = MatchResult answer (λ r. RowRead p x l.left ws y r.index r.rest.now) (Stopped (RowStops x l.left ws) l.end)
 
 -- reading ws where a tail is owed comes to reading rest there
 abbrev pub TailGoes : Draft → ℕ → List Word → List Word → Draft → Type 0

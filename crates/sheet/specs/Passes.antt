@@ -1,5 +1,5 @@
 -- The one pass over the nodes that computes the position automaton. Assumes nothing.
-use Rattle.std.specs.Prelude.{◌≡◌, ℕ, ◌^◌, ◌<◌, ◌≤◌, true, false, cond, ◌&&◌, ◌||◌, List, [], ◌∷◌, ◌++◌, length, get_or, vec_items, vec_len, vec_capacity, Vec, bit_or, slice_index_or}
+use Rattle.std.specs.Prelude.{ℕ, ◌^◌, ◌<◌, ◌≤◌, true, false, cond, ◌&&◌, ◌||◌, List, [], ◌∷◌, ◌++◌, length, get_or, bit_or, slice_index_or}
 use Rattle.std.specs.List.{AllByRecursion}
 use Rattle.regular.specs.Sets.{gain}
 use Rattle.sheet.specs.declared.tree.Node.{Node}
@@ -54,11 +54,7 @@ Placed (Star i) = Unit {0}
 Placed (Plus i) = Unit {0}
 
 -- there is room for a summary of each node and a set for each place, and a set has room for each place
-pub record Roomy {Z : Type 0} (xs : List Node) (count : ℕ) (ss : Vec Summary Z) (fs : Vec ℕ Z) : Type 0 where
-  pub small : count ≤ 64
+pub record Roomy (xs : List Node) (count : ℕ) : Type 0 where
   pub placed : AllByRecursion Placed xs
-  pub none : vec_items ss ≡ []
-  pub no_summaries : vec_len ss ≡ 0
-  pub summary_room : length xs ≤ vec_capacity ss
-  pub no_sets : vec_len fs ≡ 0
-  pub set_room : count ≤ vec_capacity fs
+  pub summary_room : length xs ≤ 632
+  pub set_room : count ≤ 60

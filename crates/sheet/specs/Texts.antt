@@ -5,13 +5,8 @@ use Rattle.text.specs.declared.word.Word.{Word}
 use Rattle.text.specs.Expressions.{Test}
 use Rattle.text.specs.Derivations.{NoneOf, Free, Condition}
 use Rattle.text.specs.LabelSets.{LabelSet, every, these, Labels}
-use Rattle.regular.specs.Sets.{with}
+use Rattle.regular.specs.Sets.{collected}
 use Rattle.regular.specs.Words.{Regex, empty, one, sequence, alternative, star, plus, with_rest, all, among, Labels as Marked}
-
--- a set with the numbers of a list in it too
-abbrev pub collected : ℕ → List ℕ → ℕ
-collected s [] = s
-collected s (n ∷ ns) = collected (with s n) ns
 
 -- the labels of an assertion, by those that are written
 abbrev pub marked : LabelSet → Marked

@@ -4,22 +4,15 @@ ghost use Rattle.std.specs.List.{AllByRecursion};
 ghost use Rattle.regular.specs.Sets.{gain};
 ghost use Rattle.sheet.specs.Passes.{nothing, Placed, Roomy, of_sequence, of_alternative, summary, linked, all_summaries, links};
 
-use crate::sets::{has, with};
+use crate::room::AutomatonRoom;
 use crate::tree::{Node, Summary};
+use regular::{has, with};
 
 // The summary at an index; past the end there are no words at all.
 fn at(summaries: &[Summary], index: usize) -> Summary
     ensures { result ≡ slice_index_or summaries.now index nothing }
 {
-    if index < summaries.len() {
-        summaries[index]
-    } else {
-        Summary {
-            nullable: false,
-            first: 0,
-            last: 0,
-        }
-    }
+    summaries.get(index).copied().unwrap_or_default()
 }
 
 fn of_sequence(left: Summary, right: Summary) -> Summary
@@ -60,8 +53,7 @@ fn summarize(summaries: &[Summary], node: Node) -> Summary
     match node {
         Node::Empty => Summary {
             nullable: true,
-            first: 0,
-            last: 0,
+            ..Summary::default()
         },
         Node::One(place) => Summary {
             nullable: false,
@@ -70,33 +62,27 @@ fn summarize(summaries: &[Summary], node: Node) -> Summary
         },
         Node::Sequence(left, right) => of_sequence(at(summaries, left), at(summaries, right)),
         Node::Alternative(left, right) => of_alternative(at(summaries, left), at(summaries, right)),
-        Node::Star(turn) => {
-            let turn = at(summaries, turn);
-            Summary {
-                nullable: true,
-                first: turn.first,
-                last: turn.last,
-            }
-        }
+        Node::Star(turn) => Summary {
+            nullable: true,
+            ..at(summaries, turn)
+        },
         Node::Plus(turn) => at(summaries, turn),
     }
 }
 
 // From now on each place of the first set can be followed by each of the second.
 fn join(follow: &mut [u64], from: u64, to: u64)
-    requires { length follow.old ≤ 64 }
     ensures { follow.new ≡ gain follow.old from to (length follow.old) }
 {
-    for place in 0..follow.len() {
+    for (place, next) in follow.iter_mut().enumerate() {
         if has(from, place) {
-            follow[place] |= to;
+            *next |= to;
         }
     }
 }
 
 // What a node adds to the sets of places that can follow each place.
 fn link(summaries: &[Summary], node: Node, follow: &mut [u64])
-    requires { length follow.old ≤ 64 }
     ensures { follow.new ≡ linked summaries.now follow.old node }
 {
     match node {
@@ -114,8 +100,7 @@ fn link(summaries: &[Summary], node: Node, follow: &mut [u64])
 }
 
 // The pass itself: a summary for each node, and the sets of places that can follow each place.
-pub fn pass(nodes: &[Node], summaries: &mut Vec<Summary>, follow: &mut [u64])
-    requires small { length follow.old ≤ 64 }
+fn pass(nodes: &[Node], summaries: &mut Vec<Summary>, follow: &mut [u64])
     requires placed { AllByRecursion Placed nodes.now }
     requires room { vec_len summaries.old + length nodes.now ≤ vec_capacity summaries.old }
     ensures summarized { summaries.new.items ≡ all_summaries summaries.old.items nodes.now }
@@ -128,7 +113,7 @@ pub fn pass(nodes: &[Node], summaries: &mut Vec<Summary>, follow: &mut [u64])
     }
 }
 
-// One empty set for each place.
+// One empty set for each place; `resize` may ask for memory, and reading may not.
 fn clear(follow: &mut Vec<u64>, count: usize)
     requires { (vec_len follow.old ≡ 0) × (count ≤ vec_capacity follow.old) }
     ensures { (follow.new.items ≡ replicate count 0) × (vec_len follow.new ≡ count) }
@@ -139,18 +124,18 @@ fn clear(follow: &mut Vec<u64>, count: usize)
 }
 
 // The position automaton of a tree with so many assertions: the places that a word can begin with, and those that can follow each.
-pub fn automaton(
-    nodes: &[Node],
-    count: usize,
-    summaries: &mut Vec<Summary>,
-    follow: &mut Vec<u64>,
-) -> u64
-    requires { Roomy nodes.now count summaries.old follow.old }
-    ensures first { result ≡ (get_or (all_summaries [] nodes.now) (length nodes.now - 1) nothing).first }
-    ensures follow { follow.new.items ≡ links [] (replicate count 0) nodes.now }
-    ensures count { vec_len follow.new ≡ count }
+pub(crate) fn automaton(nodes: &[Node], count: usize, room: AutomatonRoom) -> (u64, Vec<u64>)
+    requires { Roomy nodes.now count }
+    ensures first { result.0 ≡ (get_or (all_summaries [] nodes.now) (length nodes.now - 1) nothing).first }
+    ensures follow { result.1.items ≡ links [] (replicate count 0) nodes.now }
+    ensures count { vec_len result.1 ≡ count }
 {
-    clear(follow, count);
-    pass(nodes, summaries, follow.as_mut_slice());
-    at(summaries, nodes.len().saturating_sub(1)).first
+    let AutomatonRoom {
+        mut summaries,
+        mut follow,
+    } = room;
+    clear(&mut follow, count);
+    pass(nodes, &mut summaries, follow.as_mut_slice());
+    let first = at(&summaries, nodes.len().saturating_sub(1)).first;
+    (first, follow)
 }

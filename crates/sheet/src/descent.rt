@@ -1,75 +1,60 @@
 // Reading a sheet: recursive descent over its words, with the number of brackets that may yet be opened.
-ghost use Rattle.std.specs.Prelude.{◌≡◌, ℕ, suc, ◌+◌, ◌*◌, ◌<◌, true, false, [], ◌∷◌, vec_len, MatchBool, MatchOption, MatchResult};
-ghost use Rattle.text.specs.declared.word.Scope.TheVariants.{Every as Anyone};
+// Limits and draft are no one struct: each bracket has limits of its own, and all write into the one draft that they are lent.
+// Nor are a word and the words behind it: each function takes the word's fault and reads on behind it, and a pair would be taken
+// apart in each.
+ghost use Rattle.std.specs.Prelude.{◌≡◌, ℕ, ◌+◌, ◌*◌, ◌<◌, [], ◌∷◌, vec_len, MatchBool, MatchOption, MatchResult};
 ghost use Rattle.text.specs.Derivations.{Free};
-ghost use Rattle.text.specs.Outcomes.{TestRead, Stopped as TestStopped};
+ghost use Rattle.text.specs.Outcomes.{TestAnswer};
 ghost use Rattle.text.specs.Table.{bracketed as bracketed_item, unit as unit_item, repeats as repeats_item};
 ghost use Rattle.sheet.specs.Texts.{NoItem, row as row_part, choice as choice_part};
 ghost use Rattle.sheet.specs.Drafts.{Fresh};
-ghost use Rattle.sheet.specs.Owed.{Stopped, Stops, RowStops, Bracketed, TestedRead, TestedStops, UnitRead, RepeatsRead, RepeatsStop, Noded, TooMany, ItemRead, ItemBegins, NextItem, RowRead, NextRow, TailStops, RestRead, RestStops, WholeRead, WholeStops};
+ghost use Rattle.sheet.specs.Owed.{Stopped, Stops, Bracketed, TestedRead, TestedStops, UnitRead, UnitAnswer, RepeatsRead, RepeatsStop, RepeatSign, Noded, TooMany, ItemRead, ItemBegins, NextItem, RowAnswer, NextRow, TailStops, RestRead, RestStops, WholeRead, WholeStops};
 
 use crate::draft::Draft;
-use crate::growth::MOST_ASSERTIONS;
-use crate::labels::{LARGEST_LABEL, more_labels};
-use crate::sets::with;
 use crate::tree::{Labels, Leaf, Node};
-use model::Cause;
+use labels::{label_of, more_labels};
+use regular::with;
 use text::{
-    Expressions, Fault, Limits, Read, Scope, Token, Word, condition, first, skip, unexpected,
+    Expressions, Fault, Limits, Read, Scope, Token, Word, condition, expect, first, next, sign,
+    skip, unexpected,
 };
 
-// [ B ]
+// [ B ]. Not shared with a guard's `( B )`: each is contracted by its own item of the grammar's table, and a function over both
+// would take the signs, the item and the derivation of either.
 fn bracketed<'a>(
     words: &'a [Word],
-    end: usize,
-    left: usize,
+    limits: Limits,
     tests: &mut Expressions,
 ) -> Result<Read<'a>, Fault>
-    ensures { MatchResult result (λ x. TestRead (bracketed_item ∷ []) Bracketed Anyone left words.now tests.old tests.new x.index x.rest.now) (λ f. TestStopped (bracketed_item ∷ []) Anyone left end tests.old.counted words.now f) }
+    ensures { TestAnswer (bracketed_item ∷ []) Bracketed limits words.now tests.old tests.new result }
 {
-    let Some((word, inside)) = first(words) else {
-        return Err(unexpected(words, end));
-    };
-    match word.token {
-        Token::OpenBracket => {
-            if left == 0 {
-                return Err(Fault {
-                    cause: Cause::Deep,
-                    place: word.place,
-                });
-            }
-            let test = condition(
-                inside,
-                Limits {
-                    scope: Scope::Every,
-                    end,
-                },
-                left - 1,
-                tests,
-            )?;
-            let rest = skip(test.rest, Token::CloseBracket, end)?;
-            Ok(Read {
-                index: test.index,
-                rest,
-            })
-        }
-        _ => Err(unexpected(words, end)),
-    }
+    let (word, rest) = expect(words, Token::OpenBracket, limits.end)?;
+    let inside = limits.deeper(word)?;
+    let test = condition(rest, inside, tests)?;
+    let behind = skip(test.rest, Token::CloseBracket, limits.end)?;
+    Ok(Read {
+        index: test.index,
+        rest: behind,
+    })
 }
 
-// `:` and [ B ] behind the labels of an assertion that has been counted.
+// `:` and [ B ] behind the labels of an assertion that has been counted. The tests of a sheet may name every register.
 fn tested<'a>(
     labels: Labels,
     words: &'a [Word],
-    end: usize,
-    left: usize,
+    limits: Limits,
     draft: &mut Draft,
 ) -> Result<Read<'a>, Fault>
     requires { vec_len draft.old.leaves < 60 }
-    ensures { MatchResult result (λ x. TestedRead draft.old labels left words.now draft.new x.index x.rest.now) (λ f. Stopped (TestedStops draft.old left words.now) end f) }
+    ensures { MatchResult result (λ x. TestedRead draft.old labels limits.left words.now draft.new x.index x.rest.now) (λ f. Stopped (TestedStops draft.old limits.left words.now) limits.end f) }
 {
-    let inside = skip(words, Token::Colon, end)?;
-    let test = bracketed(inside, end, left, &mut draft.tests)?;
+    let inside = skip(words, Token::Colon, limits.end)?;
+    // Set again, as no clause carries it from the whole text's limits to here.
+    let every = Limits {
+        scope: Scope::Every,
+        ..limits
+    };
+    let test = bracketed(inside, every, &mut draft.tests)?;
     let index = draft.assert(Leaf::Given(labels, test.index));
     Ok(Read {
         index,
@@ -81,48 +66,39 @@ fn tested<'a>(
 fn question<'a>(
     word: Word,
     rest: &'a [Word],
-    end: usize,
-    left: usize,
+    limits: Limits,
     draft: &mut Draft,
 ) -> Result<Read<'a>, Fault>
     requires { word.token ≡ Token.Question }
-    ensures { MatchResult result (λ x. UnitRead draft.old left (word ∷ rest.now) draft.new x.index x.rest.now) (λ f. Stopped (Stops draft.old left (unit_item ∷ []) (word ∷ rest.now)) end f) }
+    ensures { UnitAnswer draft.old limits (word ∷ rest.now) draft.new result }
 {
-    if draft.leaves.len() >= MOST_ASSERTIONS {
-        return Err(Fault {
-            cause: Cause::Many,
-            place: word.place,
-        });
-    }
-    tested(Labels::All, rest, end, left, draft)
+    draft.room_for_assertion(word)?;
+    tested(Labels::All, rest, limits, draft)
 }
 
 // An assertion for some labels, behind the first of them.
 fn numbered<'a>(
-    label: u16,
+    number: u16,
     word: Word,
     rest: &'a [Word],
-    end: usize,
-    left: usize,
+    limits: Limits,
     draft: &mut Draft,
 ) -> Result<Read<'a>, Fault>
-    requires { word.token ≡ Token.Number label }
-    ensures { MatchResult result (λ x. UnitRead draft.old left (word ∷ rest.now) draft.new x.index x.rest.now) (λ f. Stopped (Stops draft.old left (unit_item ∷ []) (word ∷ rest.now)) end f) }
+    requires { word.token ≡ Token.Number number }
+    ensures { UnitAnswer draft.old limits (word ∷ rest.now) draft.new result }
 {
-    if label > LARGEST_LABEL {
-        return Err(Fault {
-            cause: Cause::Number,
-            place: word.place,
-        });
-    }
-    if draft.leaves.len() >= MOST_ASSERTIONS {
-        return Err(Fault {
-            cause: Cause::Many,
-            place: word.place,
-        });
-    }
-    let labels = more_labels(with(0, label as usize), rest, end)?;
-    tested(Labels::Among(labels.set), labels.rest, end, left, draft)
+    let label = label_of(number, word)?;
+    draft.room_for_assertion(word)?;
+    let (labels, behind) = more_labels(with(0, label as usize), rest, limits.end)?;
+    tested(Labels::Among(labels), behind, limits, draft)
+}
+
+// The node of a sign, which is counted.
+fn signed(node: Node, word: Word, draft: &mut Draft) -> Result<usize, Fault>
+    ensures { MatchResult result (λ i. Noded draft.old draft.new node i) (λ f. TooMany draft.old word.place f) }
+{
+    draft.count_sign(word)?;
+    Ok(draft.push(node))
 }
 
 // The empty sequence.
@@ -130,123 +106,76 @@ fn empty<'a>(word: Word, rest: &'a [Word], draft: &mut Draft) -> Result<Read<'a>
     requires { word.token ≡ Token.Empty }
     ensures { MatchResult result (λ x. (left : ℕ) → UnitRead draft.old left (word ∷ rest.now) draft.new x.index x.rest.now) (λ f. (left end : ℕ) → Stopped (Stops draft.old left (unit_item ∷ []) (word ∷ rest.now)) end f) }
 {
-    if !draft.sign() {
-        return Err(Fault {
-            cause: Cause::Many,
-            place: word.place,
-        });
-    }
-    Ok(Read {
-        index: draft.push(Node::Empty),
-        rest,
-    })
+    let index = signed(Node::Empty, word, draft)?;
+    Ok(Read { index, rest })
 }
 
-// The node of a sign, which is counted.
-fn signed(node: Node, word: Word, draft: &mut Draft) -> Result<usize, Fault>
-    ensures { MatchResult result (λ i. Noded draft.old draft.new node i) (λ f. TooMany draft.old word.place f) }
+// The `*` or `+` that repeats an item, as a node over it, its word, and the words behind it.
+fn repeat(index: usize, words: &[Word]) -> Option<(Node, Word, &[Word])>
+    ensures { MatchOption result (Free (Token.Star ∷ Token.Plus ∷ []) words.now) (λ x. RepeatSign index words.now x.0 x.1 x.2.now) }
 {
-    if !draft.sign() {
-        return Err(Fault {
-            cause: Cause::Many,
-            place: word.place,
-        });
+    let (word, rest) = first(words)?;
+    match word.token {
+        Token::Star => Some((Node::Star(index), word, rest)),
+        Token::Plus => Some((Node::Plus(index), word, rest)),
+        _ => None,
     }
-    Ok(draft.push(node))
 }
 
 // The `*` and `+` behind an item.
 fn repeats<'a>(index: usize, words: &'a [Word], draft: &mut Draft) -> Result<Read<'a>, Fault>
     ensures { MatchResult result (λ x. RepeatsRead draft.old words.now index draft.new x.index x.rest.now) (λ f. (end : ℕ) → Stopped (RepeatsStop draft.old words.now) end f) }
 {
-    match first(words) {
-        None => Ok(Read { index, rest: words }),
-        Some((word, rest)) => match word.token {
-            Token::Star => {
-                let star = signed(Node::Star(index), word, draft)?;
-                repeats(star, rest, draft)
-            }
-            Token::Plus => {
-                let plus = signed(Node::Plus(index), word, draft)?;
-                repeats(plus, rest, draft)
-            }
-            _ => Ok(Read { index, rest: words }),
-        },
+    let mut read = Read { index, rest: words };
+    while let Some((node, word, rest)) = repeat(read.index, read.rest) {
+        let index = signed(node, word, draft)?;
+        read = Read { index, rest };
     }
+    Ok(read)
 }
 
 // Whether an item begins here.
 fn begins_item(words: &[Word]) -> bool
     ensures { MatchBool result (ItemBegins words.now) (NoItem words.now) }
 {
-    match first(words) {
-        None => false,
-        Some((word, _)) => match word.token {
-            Token::Empty | Token::OpenParen | Token::Question | Token::Number(_) => true,
-            _ => false,
-        },
-    }
-}
-
-// The `|` that goes on with alternatives, and the words behind it.
-fn bar(words: &[Word]) -> Option<(Word, &[Word])>
-    ensures { MatchOption result (Free (Token.Bar ∷ []) words.now) (λ x. (words.now ≡ x.0 ∷ x.1.now) × (x.0.token ≡ Token.Bar)) }
-{
-    match first(words) {
-        None => None,
-        Some((word, rest)) => match word.token {
-            Token::Bar => Some((word, rest)),
-            _ => None,
-        },
+    match words {
+        [] => false,
+        [word, ..] => matches!(
+            word.token,
+            Token::Empty | Token::OpenParen | Token::Question | Token::Number(_)
+        ),
     }
 }
 
 // An item, without the `*` and `+` behind it.
 #[cycle(choice_item_next_item_next_row_row_unit)]
-fn unit<'a>(
-    words: &'a [Word],
-    end: usize,
-    left: usize,
-    draft: &mut Draft,
-) -> Result<Read<'a>, Fault>
-    ensures { MatchResult result (λ x. UnitRead draft.old left words.now draft.new x.index x.rest.now) (λ f. Stopped (Stops draft.old left (unit_item ∷ []) words.now) end f) }
+fn unit<'a>(words: &'a [Word], limits: Limits, draft: &mut Draft) -> Result<Read<'a>, Fault>
+    ensures { UnitAnswer draft.old limits words.now draft.new result }
 {
-    let Some((word, rest)) = first(words) else {
-        return Err(unexpected(words, end));
-    };
+    let (word, rest) = next(words, limits.end)?;
     match word.token {
         Token::Empty => empty(word, rest, draft),
-        Token::Question => question(word, rest, end, left, draft),
-        Token::Number(label) => numbered(label, word, rest, end, left, draft),
+        Token::Question => question(word, rest, limits, draft),
+        Token::Number(number) => numbered(number, word, rest, limits, draft),
         Token::OpenParen => {
-            if left == 0 {
-                return Err(Fault {
-                    cause: Cause::Deep,
-                    place: word.place,
-                });
-            }
-            let inner = choice(rest, end, left - 1, draft)?;
-            let behind = skip(inner.rest, Token::CloseParen, end)?;
+            let inside = limits.deeper(word)?;
+            let inner = choice(rest, inside, draft)?;
+            let behind = skip(inner.rest, Token::CloseParen, limits.end)?;
             Ok(Read {
                 index: inner.index,
                 rest: behind,
             })
         }
-        _ => Err(unexpected(words, end)),
+        _ => Err(unexpected(words, limits.end)),
     }
 }
 
 // An item, with the `*` and `+` behind it.
 #[cycle(choice_item_next_item_next_row_row_unit)]
-fn item<'a>(
-    words: &'a [Word],
-    end: usize,
-    left: usize,
-    draft: &mut Draft,
-) -> Result<Read<'a>, Fault>
-    ensures { MatchResult result (λ x. ItemRead draft.old left words.now draft.new x.index x.rest.now) (λ f. Stopped (Stops draft.old left (unit_item ∷ repeats_item ∷ []) words.now) end f) }
+fn item<'a>(words: &'a [Word], limits: Limits, draft: &mut Draft) -> Result<Read<'a>, Fault>
+    ensures { MatchResult result (λ x. ItemRead draft.old limits.left words.now draft.new x.index x.rest.now) (λ f. Stopped (Stops draft.old limits.left (unit_item ∷ repeats_item ∷ []) words.now) limits.end f) }
 {
-    let bare = unit(words, end, left, draft)?;
+    let bare = unit(words, limits, draft)?;
     repeats(bare.index, bare.rest, draft)
 }
 
@@ -255,13 +184,12 @@ fn item<'a>(
 fn next_item<'a>(
     index: usize,
     words: &'a [Word],
-    end: usize,
-    left: usize,
+    limits: Limits,
     draft: &mut Draft,
 ) -> Result<Read<'a>, Fault>
-    ensures { MatchResult result (λ x. NextItem draft.old left index words.now draft.new x.index x.rest.now) (λ f. Stopped (Stops draft.old left (unit_item ∷ repeats_item ∷ []) words.now) end f) }
+    ensures { MatchResult result (λ x. NextItem draft.old limits.left index words.now draft.new x.index x.rest.now) (λ f. Stopped (Stops draft.old limits.left (unit_item ∷ repeats_item ∷ []) words.now) limits.end f) }
 {
-    let next = item(words, end, left, draft)?;
+    let next = item(words, limits, draft)?;
     Ok(Read {
         index: draft.push(Node::Sequence(index, next.index)),
         rest: next.rest,
@@ -270,12 +198,12 @@ fn next_item<'a>(
 
 // Items in a row.
 #[cycle(choice_item_next_item_next_row_row_unit)]
-fn row<'a>(words: &'a [Word], end: usize, left: usize, draft: &mut Draft) -> Result<Read<'a>, Fault>
-    ensures { MatchResult result (λ x. RowRead row_part draft.old left words.now draft.new x.index x.rest.now) (λ f. Stopped (RowStops draft.old left words.now) end f) }
+fn row<'a>(words: &'a [Word], limits: Limits, draft: &mut Draft) -> Result<Read<'a>, Fault>
+    ensures { RowAnswer row_part draft.old limits words.now draft.new result }
 {
-    let mut read = item(words, end, left, draft)?;
+    let mut read = item(words, limits, draft)?;
     while begins_item(read.rest) {
-        read = next_item(read.index, read.rest, end, left, draft)?;
+        read = next_item(read.index, read.rest, limits, draft)?;
     }
     Ok(read)
 }
@@ -286,20 +214,14 @@ fn next_row<'a>(
     index: usize,
     word: Word,
     rest: &'a [Word],
-    end: usize,
-    left: usize,
+    limits: Limits,
     draft: &mut Draft,
 ) -> Result<Read<'a>, Fault>
     requires { word.token ≡ Token.Bar }
-    ensures { MatchResult result (λ x. NextRow draft.old left index (word ∷ rest.now) rest.now draft.new x.index x.rest.now) (λ f. Stopped (TailStops draft.old left (word ∷ rest.now)) end f) }
+    ensures { MatchResult result (λ x. NextRow draft.old limits.left index (word ∷ rest.now) rest.now draft.new x.index x.rest.now) (λ f. Stopped (TailStops draft.old limits.left (word ∷ rest.now)) limits.end f) }
 {
-    if !draft.sign() {
-        return Err(Fault {
-            cause: Cause::Many,
-            place: word.place,
-        });
-    }
-    let next = row(rest, end, left, draft)?;
+    draft.count_sign(word)?;
+    let next = row(rest, limits, draft)?;
     Ok(Read {
         index: draft.push(Node::Alternative(index, next.index)),
         rest: next.rest,
@@ -308,17 +230,12 @@ fn next_row<'a>(
 
 // Rows with `|` between them.
 #[cycle(choice_item_next_item_next_row_row_unit)]
-fn choice<'a>(
-    words: &'a [Word],
-    end: usize,
-    left: usize,
-    draft: &mut Draft,
-) -> Result<Read<'a>, Fault>
-    ensures { MatchResult result (λ x. RowRead choice_part draft.old left words.now draft.new x.index x.rest.now) (λ f. Stopped (RowStops draft.old left words.now) end f) }
+fn choice<'a>(words: &'a [Word], limits: Limits, draft: &mut Draft) -> Result<Read<'a>, Fault>
+    ensures { RowAnswer choice_part draft.old limits words.now draft.new result }
 {
-    let mut read = row(words, end, left, draft)?;
-    while let Some((word, rest)) = bar(read.rest) {
-        read = next_row(read.index, word, rest, end, left, draft)?;
+    let mut read = row(words, limits, draft)?;
+    while let Some((word, rest)) = sign(read.rest, Token::Bar) {
+        read = next_row(read.index, word, rest, limits, draft)?;
     }
     Ok(read)
 }
@@ -335,12 +252,7 @@ fn rested(
     requires room { vec_len draft.old.nodes < 2 * (vec_len draft.old.leaves + draft.old.signs) }
     ensures { MatchResult result (λ _. RestRead draft.old index (word ∷ rest.now) rest.now draft.new) (λ f. Stopped (RestStops draft.old (word ∷ rest.now)) end f) }
 {
-    if draft.leaves.len() >= MOST_ASSERTIONS {
-        return Err(Fault {
-            cause: Cause::Many,
-            place: word.place,
-        });
-    }
+    draft.room_for_assertion(word)?;
     if !rest.is_empty() {
         return Err(unexpected(rest, end));
     }
@@ -351,11 +263,11 @@ fn rested(
 }
 
 // The whole sheet, into an empty draft.
-pub fn whole(words: &[Word], end: usize, draft: &mut Draft) -> Result<(), Fault>
+pub(crate) fn whole(words: &[Word], end: usize, draft: &mut Draft) -> Result<(), Fault>
     requires { Fresh draft.old }
     ensures { MatchResult result (λ _. WholeRead draft.old words.now draft.new) (λ f. Stopped (WholeStops draft.old words.now) end f) }
 {
-    let read = choice(words, end, DEEPEST, draft)?;
+    let read = choice(words, Limits::new(Scope::Every, end), draft)?;
     match first(read.rest) {
         None => Ok(()),
         Some((word, rest)) => match word.token {
@@ -364,6 +276,3 @@ pub fn whole(words: &[Word], end: usize, draft: &mut Draft) -> Result<(), Fault>
         },
     }
 }
-
-// How many brackets may be open at one word.
-const DEEPEST: usize = 16;

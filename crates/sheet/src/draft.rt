@@ -4,6 +4,8 @@ ghost use Rattle.std.specs.Prelude.{◌+◌, ◌*◌, ◌≤◌, vec_len, vec_ca
 use crate::tree::{Leaf, Node};
 use text::Expressions;
 
+// Its nodes, leaves and tests are no struct of their own, though a sheet has them too: they are handed over once, when it is
+// finished, and every other use would name that struct on its way to them.
 #[derive(Drop)]
 pub struct Draft {
     pub(crate) nodes: Vec<Node>,

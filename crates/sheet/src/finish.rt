@@ -1,18 +1,17 @@
 // From a draft to a sheet: the position automaton of its tree.
-ghost use Rattle.std.specs.Prelude.{◌≡◌, ◌≤◌, vec_len, vec_capacity};
+ghost use Rattle.std.specs.Prelude.{◌≡◌};
 ghost use Rattle.regular.specs.Words.{Regex};
 ghost use Rattle.sheet.specs.Drafts.{LaidDown};
 ghost use Rattle.sheet.specs.Sheets.{tree_of};
 
 use crate::automaton::automaton;
 use crate::draft::Draft;
+use crate::room::AutomatonRoom;
 use crate::sheet::Sheet;
-use crate::tree::Summary;
 
 // The sheet of a draft in which an expression lies.
-pub fn finished(draft: Draft, mut summaries: Vec<Summary>, mut follow: Vec<u64>) -> Sheet
-    requires laid { (e : Regex) × LaidDown draft e }
-    requires room { (632 ≤ vec_capacity summaries) × (vec_len summaries ≡ 0) × (60 ≤ vec_capacity follow) × (vec_len follow ≡ 0) }
+pub(crate) fn finished(draft: Draft, room: AutomatonRoom) -> Sheet
+    requires { (e : Regex) × LaidDown draft e }
     ensures { (e : Regex) → LaidDown draft e → tree_of result ≡ e }
 {
     let Draft {
@@ -21,7 +20,7 @@ pub fn finished(draft: Draft, mut summaries: Vec<Summary>, mut follow: Vec<u64>)
         tests,
         signs: _,
     } = draft;
-    let first = automaton(nodes.as_slice(), leaves.len(), &mut summaries, &mut follow);
+    let (first, follow) = automaton(nodes.as_slice(), leaves.len(), room);
     Sheet {
         nodes,
         leaves,

@@ -6,11 +6,9 @@ mod descent;
 mod draft;
 mod finish;
 mod growth;
-mod labels;
 mod reading;
 mod reserve;
 mod room;
-mod sets;
 mod sheet;
 #[cfg(test)]
 mod tests;

@@ -16,6 +16,7 @@ pub struct Sheet {
     // The places that a word can begin with.
     pub(crate) first: u64,
     // For each place the set of those that can follow it in a word.
+    // Not beside the leaves: they are read before the sets can be computed, and a set that is not yet true would stand there.
     pub(crate) follow: Vec<u64>,
     ghost small: { (vec_len leaves ≤ 60) × (vec_len follow ≡ vec_len leaves) },
     ghost stands: { ∥ Standing nodes.items leaves.items tests.ariths.items tests.tests.items first follow.items ∥₁ },

@@ -41,13 +41,9 @@ fn passes(
     many: usize,
 ) -> Result<(), Fail> {
     let room = Room::reserve(heap)?;
-    match read(room, text) {
-        Ok(sheet) => {
-            assert!(rt; follow(&sheet, labels) == many);
-            Ok(())
-        },
-        Err(_) => Err(Fail::new("refused")),
-    }
+    let sheet = read(room, text).map_err(|_| Fail::new("refused"))?;
+    assert!(rt; follow(&sheet, labels) == many);
+    Ok(())
 }
 
 // The text is refused for this cause at this place.
@@ -59,14 +55,12 @@ fn refused(
     place: usize,
 ) -> Result<(), Fail> {
     let room = Room::reserve(heap)?;
-    match read(room, text) {
-        Ok(_) => Err(Fail::new("read")),
-        Err(refusal) => {
-            assert!(rt; refusal.cause.number() == cause.number());
-            assert!(rt; refusal.place == place);
-            Ok(())
-        }
-    }
+    let Err(refusal) = read(room, text) else {
+        return Err(Fail::new("read"));
+    };
+    assert!(rt; refusal.cause == cause);
+    assert!(rt; refusal.place == place);
+    Ok(())
 }
 
 // So many assertions and a tail are read, or refused for the last of them.

@@ -1,20 +1,16 @@
 // A sheet is a watch: its states are sets of assertions.
-ghost use Rattle.std.specs.Prelude.{◌≡◌, ◌<◌, ◌&&◌, length, vec_len};
-ghost use Rattle.regular.specs.Words.{size, holding};
-ghost use Rattle.regular.specs.Sets.{has, gather, keep};
+ghost use Rattle.std.specs.Prelude.{◌≡◌};
+ghost use Rattle.regular.specs.Words.{size, covers, asserts, holding};
+ghost use Rattle.regular.specs.Sets.{gather, keep};
 ghost use Rattle.regular.specs.Automaton.{follow_sets, nexts, state_of};
 ghost use Rattle.regular.proofs.Meaning.{meaning};
-ghost use Rattle.sheet.specs.Parts.{labels_of};
+ghost use Rattle.sheet.specs.Parts.{labels_of, assertion_of, Tested};
 ghost use Rattle.sheet.specs.Sheets.{tree_of};
-ghost use Rattle.regular.specs.Words.{covers};
-ghost use Rattle.text.specs.Expressions.{Test, holds as test_holds};
-ghost use Rattle.text.specs.Nodes.{TestAt};
 
-use crate::sets::{has, with};
 use crate::sheet::Sheet;
 use crate::tree::{Labels, Leaf};
 use model::{Moment, Watch};
-use regular::Positions;
+use regular::{Positions, has, with};
 use text::Expressions;
 use values::holds;
 
@@ -30,59 +26,37 @@ impl Labels {
     }
 }
 
-// Whether an assertion with these labels and this test holds.
-fn asserted(tests: &Expressions, labels: Labels, test: usize, moment: &Moment) -> bool
-    ensures { (t : Test) → TestAt tests.now.ariths.items tests.now.tests.items test t → result ≡ (covers (labels_of labels) moment.now.label && test_holds moment.now t) }
+// Whether an assertion holds.
+fn asserted(tests: &Expressions, leaf: Leaf, moment: &Moment) -> bool
+    ensures { Tested tests.now.ariths.items tests.now.tests.items leaf → result ≡ asserts (assertion_of tests.now.ariths.items tests.now.tests.items leaf) moment.now }
 {
-    if !labels.cover(moment.label) {
-        return false;
+    match leaf {
+        Leaf::Given(labels, test) => labels.cover(moment.label) && holds(tests, test, moment),
+        Leaf::Anything => true,
     }
-    holds(tests, test, moment)
 }
 
 impl Sheet {
-    // Whether the assertion at a place holds.
-    fn holds(&self, place: usize, moment: &Moment) -> bool
-        requires { place < vec_len self.now.leaves }
-        ensures { result ≡ holding (tree_of self.now) place moment.now }
-    {
-        match self.leaves[place] {
-            Leaf::Given(labels, test) => asserted(&self.tests, labels, test, moment),
-            Leaf::Anything => true,
-        }
-    }
-
-    // Whether the assertion at a place is in the set and holds: what is not in the set is not evaluated.
-    fn fits(&self, set: u64, place: usize, moment: &Moment) -> bool
-        requires { place < vec_len self.now.leaves }
-        ensures { result ≡ (has set place && holding (tree_of self.now) place moment.now) }
-    {
-        if !has(set, place) {
-            return false;
-        }
-        self.holds(place, moment)
-    }
-
     // The assertions that can follow one of the set.
     fn after(&self, set: u64) -> u64
         ensures { result ≡ gather (follow_sets (tree_of self.now)) set (size (tree_of self.now)) }
     {
-        let mut next = 0;
-        for place in 0..self.follow.len() {
+        let mut all = 0;
+        for (place, next) in self.follow.iter().enumerate() {
             if has(set, place) {
-                next |= self.follow[place];
+                all |= *next;
             }
         }
-        next
+        all
     }
 
-    // The assertions of the set that hold.
+    // The assertions of the set that hold: what is not in the set is not evaluated.
     fn kept(&self, set: u64, moment: &Moment) -> u64
         ensures { result ≡ keep (λ p. holding (tree_of self.now) p moment.now) set (size (tree_of self.now)) }
     {
         let mut held = 0;
-        for place in 0..self.leaves.len() {
-            if self.fits(set, place, moment) {
+        for (place, leaf) in self.leaves.iter().enumerate() {
+            if has(set, place) && asserted(&self.tests, *leaf, moment) {
                 held = with(held, place);
             }
         }
@@ -104,10 +78,7 @@ impl Sheet {
 fn state_of(set: u64) -> Option<Positions>
     ensures { result ≡ state_of set }
 {
-    if set == 0 {
-        return None;
-    }
-    Some(Positions::After(set))
+    (set != 0).then_some(Positions::After(set))
 }
 
 impl Watch for Sheet {

@@ -1,55 +1,32 @@
 -- The element at a place of a list, and the tests of rows and arcs as a list grows. Assumes nothing.
-use Rattle.std.proofs.Common.{◌≡◌, ℕ, zero, suc, ◌+◌, ◌<◌, ◌≤◌, Bool, true, false, ◌&&◌, List, [], ◌∷◌, ◌++◌, length, get_or, take, drop, ℤ, pos, negsuc, Some, None, sym, refl, ap, ◌∙◌, subst, add-one, arith}
+use Rattle.std.proofs.Common.{◌≡◌, ℕ, zero, suc, ◌+◌, ◌<◌, Bool, true, false, ◌&&◌, List, [], ◌∷◌, ◌++◌, length, get_or, take, ℤ, pos, negsuc, Some, sym, refl, ap, ◌∙◌, subst, arith}
 use lib.Signed.{le_z}
-use Rattle.std.proofs.lemmas.List.{append-nil, append_assoc, at_drop_more}
-use Rattle.std.proofs.lemmas.Bool.{and_parts}
+use Rattle.std.specs.List.{list_all, AllWithin, HoldsAt}
+use Rattle.std.proofs.lemmas.List.{append-nil, append_assoc, take_all, take_more}
+use Rattle.std.proofs.lemmas.Bool.{and_parts, and_from}
+use Rattle.std.proofs.lemmas.Option.{none-some, same_Some}
 use Rattle.model.specs.Cells.{at}
 use Rattle.steps.specs.declared.row.Row.{Row}
 use Rattle.steps.specs.declared.row.Arc.{Arc}
 use Rattle.steps.specs.Tables.{limited, proper_row, proper_rows, proper_arc, proper_arcs}
 use Rattle.steps.specs.Laws.{arcs_parts}
 
-pub some_injective : {A : Type 0} {x y : A} → Some x ≡ Some y → x ≡ y
-some_injective e = cc
-
-pub some_none : {A : Type 0} {x : A} → Some x ≡ None → ⊥
-some_none e = let z : ◌≡◌ {A = ℕ} 0 1 = cc in omega arith
-
 module _ {A : Type 0} where
-  pub at_past : (xs : List A) (i : ℕ) → length xs ≤ i → at xs i ≡ None
-  at_past [] i h = refl
-  at_past (x ∷ xs) zero h = absurd (omega arith)
-  at_past (x ∷ xs) (suc i) h = at_past xs i (omega arith)
-
   pub at_get_or : (xs : List A) (i : ℕ) (d : A) → i < length xs → at xs i ≡ Some (get_or xs i d)
   at_get_or [] i d h = absurd (omega arith)
   at_get_or (x ∷ xs) zero d h = refl
   at_get_or (x ∷ xs) (suc i) d h = at_get_or xs i d (omega arith)
 
-  pub at_below : (xs : List A) (i : ℕ) → i < length xs → (x : A) × (at xs i ≡ Some x)
-  at_below [] i h = absurd (omega arith)
-  at_below (x ∷ xs) zero h = (x, refl)
-  at_below (x ∷ xs) (suc i) h = at_below xs i (omega arith)
-
-  pub below_at : (xs : List A) (i : ℕ) (x : A) → at xs i ≡ Some x → i < length xs
-  below_at [] i x e = absurd (some_none (sym e))
-  below_at (y ∷ ys) zero x e = omega arith
-  below_at (y ∷ ys) (suc i) x e = let r = below_at ys i x e in omega arith
+  -- an element of the list, and the front up to it
+  pub at_more : (xs : List A) (i : ℕ) → i < length xs → (x : A) × (at xs i ≡ Some x) × (take (i + 1) xs ≡ take i xs ++ (x ∷ []))
+  at_more [] i h = absurd (omega arith)
+  at_more (y ∷ ys) i h = (get_or (y ∷ ys) i y, at_get_or (y ∷ ys) i y h, take_more (y ∷ ys) i y h)
 
   pub at_take : (xs : List A) (n i : ℕ) → i < n → at (take n xs) i ≡ at xs i
   at_take xs zero i h = absurd (omega arith)
   at_take [] (suc n) i h = refl
   at_take (x ∷ xs) (suc n) zero h = refl
   at_take (x ∷ xs) (suc n) (suc i) h = at_take xs n i (omega arith)
-
-  take_suc_at : (xs : List A) (i : ℕ) (x : A) → at xs i ≡ Some x → take (suc i) xs ≡ take i xs ++ (x ∷ [])
-  take_suc_at [] i x e = absurd (some_none (sym e))
-  take_suc_at (y ∷ ys) zero x e = ap (λ z. z ∷ []) (some_injective e)
-  take_suc_at (y ∷ ys) (suc i) x e = ap (λ l. y ∷ l) (take_suc_at ys i x e)
-
-  -- one more element of the front
-  pub take_more_at : (xs : List A) (i : ℕ) (x : A) → at xs i ≡ Some x → take (i + 1) xs ≡ take i xs ++ (x ∷ [])
-  take_more_at xs i x e = ap (λ n. take n xs) (add-one i) ∙ take_suc_at xs i x e
 
 and_true : (b : Bool) → (b && true) ≡ b
 and_true true = refl
@@ -58,10 +35,6 @@ and_true false = refl
 pub and_second : (a b : Bool) → a ≡ true → (a && b) ≡ b
 and_second true b e = refl
 and_second false b e = cc
-
-pub and_first_false : (a b : Bool) → a ≡ false → (a && b) ≡ false
-and_first_false true b e = cc
-and_first_false false b e = refl
 
 -- behind proper rows, one more decides
 pub rows_push : (rs : List Row) (r : Row) → proper_rows rs ≡ true → proper_rows (rs ++ (r ∷ [])) ≡ proper_row r
@@ -79,25 +52,51 @@ arcs_push n before (b ∷ bs) a e =
     ∙ arcs_push n (before ++ (b ∷ [])) bs a p.1 ∙ ap (λ l. proper_arc n l a) (append_assoc before (b ∷ []) bs)
 
 pub row_at : (rs : List Row) (i : ℕ) (r : Row) → proper_rows rs ≡ true → at rs i ≡ Some r → proper_row r ≡ true
-row_at [] i r e h = absurd (some_none (sym h))
-row_at (s ∷ rs) zero r e h = subst (λ x. proper_row x ≡ true) (some_injective h) (and_parts (proper_row s) (proper_rows rs) e).0
+row_at [] i r e h = absurd (none-some _ h)
+row_at (s ∷ rs) zero r e h = subst (λ x. proper_row x ≡ true) (same_Some _ _ h) (and_parts (proper_row s) (proper_rows rs) e).0
 row_at (s ∷ rs) (suc i) r e h = row_at rs i r (and_parts (proper_row s) (proper_rows rs) e).1 h
 
 pub arc_at : (n : ℕ) (before bs : List Arc) (i : ℕ) (a : Arc) → proper_arcs n before bs ≡ true → at bs i ≡ Some a → proper_arc n (before ++ take i bs) a ≡ true
-arc_at n before [] i a e h = absurd (some_none (sym h))
+arc_at n before [] i a e h = absurd (none-some _ h)
 arc_at n before (b ∷ bs) zero a e h =
-    ap (λ l. proper_arc n l a) (append-nil before) ∙ subst (λ x. proper_arc n before x ≡ true) (some_injective h) (arcs_parts n before b bs e).0
+    ap (λ l. proper_arc n l a) (append-nil before) ∙ subst (λ x. proper_arc n before x ≡ true) (same_Some _ _ h) (arcs_parts n before b bs e).0
 arc_at n before (b ∷ bs) (suc i) a e h =
     ap (λ l. proper_arc n l a) (sym (append_assoc before (b ∷ []) (take i bs))) ∙ arc_at n (before ++ (b ∷ [])) bs i a (arcs_parts n before b bs e).1 h
 
--- a value more is tested
-pub limited_step : (vs : List ℤ) (i : ℕ) (d : ℤ) → i < length vs → limited (drop i vs) ≡ ((le_z (negsuc 999) (get_or vs i d) && le_z (get_or vs i d) (pos 1000)) && limited (drop (i + 1) vs))
-limited_step vs i d h = at_drop_more limited vs i d h ∙ and_assoc (le_z (negsuc 999) (get_or vs i d)) (le_z (get_or vs i d) (pos 1000)) (limited (drop (i + 1) vs))
+-- a row that is proper, and one that is not
+abbrev pub Right : Row → Type 0
+Right r = proper_row r ≡ true
+
+abbrev pub Wrong : Row → Type 0
+Wrong r = proper_row r ≡ false
+
+-- the test of one value, and of them all
+abbrev pub within : ℤ → Bool
+within v = le_z (negsuc 999) v && le_z v (pos 1000)
+
+pub limited_all : (vs : List ℤ) → list_all within vs ≡ limited vs
+limited_all [] = refl
+limited_all (v ∷ vs) = and_assoc (le_z (negsuc 999) v) (le_z v (pos 1000)) (list_all within vs) ∙ ap (λ b. le_z (negsuc 999) v && (le_z v (pos 1000) && b)) (limited_all vs)
   where
-    and_assoc : (a b c : Bool) → (a && (b && c)) ≡ ((a && b) && c)
+    and_assoc : (a b c : Bool) → ((a && b) && c) ≡ (a && (b && c))
     and_assoc true b c = refl
     and_assoc false b c = refl
 
 -- a row more is tested
-pub rows_more : (rs : List Row) (i : ℕ) (d : Row) → i < length rs → proper_rows (take i rs) ≡ true → proper_rows (take (i + 1) rs) ≡ proper_row (get_or rs i d)
-rows_more rs i d h e = ap proper_rows (take_more_at rs i (get_or rs i d) (at_get_or rs i d h)) ∙ rows_push (take i rs) (get_or rs i d) e
+rows_more : (rs : List Row) (i : ℕ) (d : Row) → i < length rs → proper_rows (take i rs) ≡ true → proper_rows (take (i + 1) rs) ≡ proper_row (get_or rs i d)
+rows_more rs i d h e = ap proper_rows (take_more rs i d h) ∙ rows_push (take i rs) (get_or rs i d) e
+
+proper_before : (rs : List Row) (i : ℕ) → AllWithin Right rs 0 i → proper_rows (take i rs) ≡ true
+proper_before rs zero h = refl
+proper_before [] (suc i) h = refl
+proper_before (r ∷ rs) (suc i) h = and_from _ _ (h 0 r (omega arith) (omega arith)) (proper_before rs i (λ k d l u. h (suc k) d (omega arith) (omega arith)))
+
+-- what looking for the first row that is not proper finds
+pub all_right : (rs : List Row) → AllWithin Right rs 0 (length rs) → proper_rows rs ≡ true
+all_right rs h = ap proper_rows (sym (take_all (length rs) rs (omega arith))) ∙ proper_before rs (length rs) h
+
+pub first_wrong : (rs : List Row) (i : ℕ) → (i < length rs) × HoldsAt Wrong rs i × AllWithin Right rs 0 i → (i < length rs) × (proper_rows (take i rs) ≡ true) × (proper_rows (take (i + 1) rs) ≡ false)
+first_wrong rs i h =
+    let e = proper_before rs i h.2 in
+    let x = at_more rs i h.0 in
+    (h.0, e, rows_more rs i x.0 h.0 e ∙ h.1 x.0)

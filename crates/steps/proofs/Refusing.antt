@@ -5,11 +5,13 @@ use Rattle.std.proofs.lemmas.Bool.{both_ways, and_from, le-leb}
 use Rattle.model.specs.Cells.{at}
 use Rattle.model.specs.Refusals.{reply}
 use Rattle.model.specs.declared.refusal.Refusal.{Refusal}
+use Rattle.model.specs.declared.refusal.Layer.TheVariants.{Steps}
+use Rattle.model.specs.declared.refusal.Cause.TheVariants.{Many, Step}
 use Rattle.steps.specs.declared.row.Row.{Row}
 use Rattle.steps.specs.declared.row.Arc.{Arc}
 use Rattle.steps.specs.Calls.{TooMany, Improper, First, Never, Refused}
 use Rattle.steps.specs.Tables.{proper_row, proper_rows, proper_arc, proper_arcs, proper}
-use Rattle.steps.proofs.Lists.{at_below, at_take, take_more_at, rows_push, arcs_push, row_at, arc_at}
+use Rattle.steps.proofs.Lists.{at_more, at_take, rows_push, arcs_push, row_at, arc_at}
 
 module _ (rs : List Row) (bs : List Arc) where
   pub none_many : length rs ≤ 256 → length bs ≤ 4096 → Never (TooMany rs bs)
@@ -33,14 +35,14 @@ module _ (rs : List Row) (bs : List Arc) where
 
   pub row_first : (i : ℕ) → i < length rs → proper_rows (take i rs) ≡ true → proper_rows (take (i + 1) rs) ≡ false → First (Improper rs bs) i
   row_first i h e f =
-      let x = at_below rs i h in
-      let t : proper_row x.0 ≡ false = sym (rows_push (take i rs) x.0 e) ∙ ap proper_rows (sym (take_more_at rs i x.0 x.1)) ∙ f in
+      let x = at_more rs i h in
+      let t : proper_row x.0 ≡ false = sym (rows_push (take i rs) x.0 e) ∙ ap proper_rows (sym x.2) ∙ f in
       (inl (x.0, x.1, t), λ j l. ⊎_elim (no_row i j e l) (λ p. let q = p.1 in omega arith))
 
   pub arc_first : (i : ℕ) → i < length bs → proper_rows rs ≡ true → proper_arcs (length rs) [] (take i bs) ≡ true → proper_arcs (length rs) [] (take (i + 1) bs) ≡ false → First (Improper rs bs) (length rs + i)
   arc_first i h g e f =
-      let x = at_below bs i h in
-      let t : proper_arc (length rs) (take i bs) x.0 ≡ false = sym (arcs_push (length rs) [] (take i bs) x.0 e) ∙ ap (proper_arcs (length rs) []) (sym (take_more_at bs i x.0 x.1)) ∙ f in (
+      let x = at_more bs i h in
+      let t : proper_arc (length rs) (take i bs) x.0 ≡ false = sym (arcs_push (length rs) [] (take i bs) x.0 e) ∙ ap (proper_arcs (length rs) []) (sym x.2) ∙ f in (
         inr (i, refl, x.0, x.1, t),
         λ j l. ⊎_elim (λ p. both_ways (proper_row p.0) p.2 (row_at rs j p.0 g p.1)) (λ p. let q = p.1 in no_arc i p.0 p.2 e (omega arith) p.3 p.4),
       )
@@ -50,15 +52,15 @@ module _ (rs : List Row) (bs : List Arc) where
   all_proper g e i (inr p) = both_ways (proper_arc (length rs) (take p.0 bs) p.2) p.4 (arc_at (length rs) [] bs p.0 p.2 e p.3)
 
   -- the three refusals
-  pub refused_many : (e : Refusal) → ((reply e ≡ (5, 11, 256)) × (256 < length rs)) ⊎ ((reply e ≡ (5, 11, length rs + 4096)) × (length rs ≤ 256) × (4096 < length bs)) → Refused rs bs e
-  refused_many e (inl p) = inl (256, p.0, rows_many p.1)
-  refused_many e (inr p) = inl (length rs + 4096, p.0, arcs_many p.1 p.2)
+  pub refused_many : (e : Refusal) → ((e ≡ record { layer = Steps; cause = Many; place = 256 }) × (256 < length rs)) ⊎ ((e ≡ record { layer = Steps; cause = Many; place = length rs + 4096 }) × (length rs ≤ 256) × (4096 < length bs)) → Refused rs bs e
+  refused_many e (inl p) = inl (256, ap reply p.0, rows_many p.1)
+  refused_many e (inr p) = inl (length rs + 4096, ap reply p.0, arcs_many p.1 p.2)
 
-  pub refused_row : (e : Refusal) → length rs ≤ 256 → length bs ≤ 4096 → ((i : ℕ) × (reply e ≡ (5, 13, i)) × (i < length rs) × (proper_rows (take i rs) ≡ true) × (proper_rows (take (i + 1) rs) ≡ false)) → Refused rs bs e
-  refused_row e h l p = inr (p.0, p.1, none_many h l, row_first p.0 p.2 p.3 p.4)
+  pub refused_row : (e : Refusal) → length rs ≤ 256 → length bs ≤ 4096 → ((i : ℕ) × (e ≡ record { layer = Steps; cause = Step; place = i }) × (i < length rs) × (proper_rows (take i rs) ≡ true) × (proper_rows (take (i + 1) rs) ≡ false)) → Refused rs bs e
+  refused_row e h l p = inr (p.0, ap reply p.1, none_many h l, row_first p.0 p.2 p.3 p.4)
 
-  pub refused_arc : (e : Refusal) → length rs ≤ 256 → length bs ≤ 4096 → proper_rows rs ≡ true → ((i : ℕ) × (reply e ≡ (5, 13, length rs + i)) × (i < length bs) × (proper_arcs (length rs) [] (take i bs) ≡ true) × (proper_arcs (length rs) [] (take (i + 1) bs) ≡ false)) → Refused rs bs e
-  refused_arc e h l g p = inr (length rs + p.0, p.1, none_many h l, arc_first p.0 p.2 g p.3 p.4)
+  pub refused_arc : (e : Refusal) → length rs ≤ 256 → length bs ≤ 4096 → proper_rows rs ≡ true → ((i : ℕ) × (e ≡ record { layer = Steps; cause = Step; place = length rs + i }) × (i < length bs) × (proper_arcs (length rs) [] (take i bs) ≡ true) × (proper_arcs (length rs) [] (take (i + 1) bs) ≡ false)) → Refused rs bs e
+  refused_arc e h l g p = inr (length rs + p.0, ap reply p.1, none_many h l, arc_first p.0 p.2 g p.3 p.4)
 
   pub is_proper : length rs ≤ 256 → length bs ≤ 4096 → proper_rows rs ≡ true → proper_arcs (length rs) [] bs ≡ true → proper rs bs ≡ true
   is_proper h l g e = and_from _ _ (le-leb (length rs) 256 h) (and_from _ _ (le-leb (length bs) 4096 l) (and_from _ _ g e))

@@ -1,17 +1,18 @@
 -- The index of a step table: lists that answer each question by one place. Assumes nothing.
-use Rattle.std.specs.Prelude.{◌≡◌, ℕ, ◌*◌, ◌<◌, List, length, take, drop, slice_index}
+use Rattle.std.specs.Prelude.{◌≡◌, ℕ, ◌<◌, true, false, List, [], ◌∷◌, ◌++◌, Ok, Err, Result, slice_index_or}
 use Rattle.steps.specs.declared.row.Row.{Row}
 use Rattle.steps.specs.declared.row.Arc.{Arc}
-use Rattle.steps.specs.Tables.{nexts_of, starts_from}
+use Rattle.steps.specs.Tables.{nexts_of, starts_from, proper_arc}
 
--- the first n of the listed numbers are those of the start rows
-abbrev pub Begun : List Row → List ℕ → ℕ → Type 0
-Begun rs starts n = (n ≡ length (starts_from 0 rs)) × (take n starts ≡ starts_from 0 rs)
+-- the listed numbers are those of the start rows
+abbrev pub Begun : List Row → List ℕ → Type 0
+Begun rs starts = starts ≡ starts_from 0 rs
 
--- how many arcs leave each row
-abbrev pub Counted : List Arc → List ℕ → Type 0
-Counted bs counts = (r : ℕ) → r < 256 → slice_index counts r ≡ length (nexts_of bs r)
+-- for each row stands where its arcs lead
+abbrev pub Filed : List Arc → List (List ℕ) → Type 0
+Filed bs nexts = (r : ℕ) → r < 256 → slice_index_or nexts r [] ≡ nexts_of bs r
 
--- where the arcs of each row lead: the first of its 64 slots
-abbrev pub Filed : List Arc → List ℕ → Type 0
-Filed bs targets = (r : ℕ) → r < 256 → take (length (nexts_of bs r)) (drop (r * 64) targets) ≡ nexts_of bs r
+-- an arc behind those that are filed: it is proper, and now filed too, or it is not proper
+abbrev pub Entered : {X E : Type 0} → ℕ → Arc → List (List ℕ) → List (List ℕ) → Result X E → Type 0
+Entered n a old new (Err e) = (bs : List Arc) → Filed bs old → proper_arc n bs a ≡ false
+Entered n a old new (Ok x) = (bs : List Arc) → Filed bs old → (proper_arc n bs a ≡ true) × Filed (bs ++ (a ∷ [])) new

@@ -1,47 +1,54 @@
 // A step table as a cell: each question is answered from one place of the table or of its index.
+ghost use Rattle.std.specs.Prelude.{◌≡◌};
 ghost use Rattle.steps.specs.Meaning.{table_cell};
+ghost use Rattle.steps.specs.Tables.{nexts_of, starts_from};
 
-use crate::table::{SLOTS, StepTable};
+use crate::table::StepTable;
 use model::{Cell, Reading};
+
+impl<'a> StepTable<'a> {
+    // The start codes.
+    fn starts(&self) -> &[u8]
+        ensures { result.now ≡ starts_from 0 self.now.rows.now }
+    {
+        self.index.starts.as_slice()
+    }
+
+    // The next codes of a code: none where it is no row.
+    fn nexts(&self, code: u64) -> &[u8]
+        ensures { result.now ≡ nexts_of self.now.arcs.now code }
+    {
+        self.index
+            .nexts
+            .get(code as usize)
+            .map_or(&[], |nexts| nexts.as_slice())
+    }
+}
 
 impl<'a> Cell for StepTable<'a> {
     ghost cell = { λ t. table_cell t.rows.now t.arcs.now t.fit };
 
     fn start_count(&self) -> usize {
-        self.index.start_count
+        self.starts().len()
     }
 
     fn start_at(&self, place: usize) -> Option<u64> {
-        if place >= self.start_count() {
-            return None;
-        }
-        Some(self.index.starts[place] as u64)
+        self.starts().get(place).map(|code| u64::from(*code))
     }
 
     fn next_count(&self, code: u64) -> usize {
-        if code >= self.rows.len() as u64 {
-            return 0;
-        }
-        self.index.counts[code as usize] as usize
+        self.nexts(code).len()
     }
 
     fn next_at(&self, code: u64, place: usize) -> Option<u64> {
-        // What is no row has no next codes, so past this test the code is a row.
-        if place >= self.next_count(code) {
-            return None;
-        }
-        Some(self.index.targets[code as usize * SLOTS + place] as u64)
+        self.nexts(code).get(place).map(|code| u64::from(*code))
     }
 
     fn observe(&self, code: u64, reading: &mut Reading) -> bool {
-        if code >= self.rows.len() as u64 {
+        let Some(row) = self.rows.get(code as usize) else {
             return false;
-        }
-        let row = &self.rows[code as usize];
-        *reading = Reading {
-            label: row.label,
-            values: row.values,
         };
+        *reading = row.reading();
         true
     }
 }

@@ -2,10 +2,10 @@
 #![tactic(auto)]
 
 mod cell;
+mod counted;
 mod fill;
 mod row;
-mod slots;
-mod states;
+mod short;
 mod table;
 #[cfg(test)]
 mod tests;

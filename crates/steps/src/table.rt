@@ -1,21 +1,26 @@
 // A step table: the rows and arcs that it was filled with, and an index of them.
 ghost use Rattle.std.specs.Prelude.{◌≡◌, true, []};
 ghost use Rattle.steps.specs.Tables.{proper};
-ghost use Rattle.steps.specs.Index.{Begun, Counted, Filed};
+ghost use Rattle.steps.specs.Index.{Begun, Filed};
 
 use crate::row::{Arc, Row};
+use crate::short::Short;
+use std::array;
 
-// Where the next codes of a row stand in the index: this many slots for each row.
-pub(crate) const SLOTS: usize = 64;
+// A table has at most so many rows, and at most so many arcs leave each.
+pub(crate) const ROWS: usize = 256;
 
-// The start rows in their order, and for each row how many arcs leave it and where they lead, in arc order, so that
-// no question walks over rows or arcs.
-#[derive(Clone, Copy)]
+const SLOTS: usize = 64;
+
+// For each row, where its arcs lead.
+pub(crate) type Nexts = [Short<SLOTS>; ROWS];
+
+// The start rows in their order, and for each row where its arcs lead, in arc order, so that no question walks over
+// rows or arcs.
+#[derive(Drop)]
 pub(crate) struct Index {
-    pub(crate) starts: [u8; 256],
-    pub(crate) start_count: usize,
-    pub(crate) counts: [u8; 256],
-    pub(crate) targets: [u8; 16384],
+    pub(crate) starts: Short<ROWS>,
+    pub(crate) nexts: Nexts,
 }
 
 // The rows and arcs stay the caller's.
@@ -25,9 +30,8 @@ pub struct StepTable<'a> {
     pub(crate) arcs: &'a [Arc],
     pub(crate) index: Index,
     ghost fit: { proper rows.now arcs.now ≡ true },
-    ghost begun: { Begun rows.now index.starts index.start_count },
-    ghost counted: { Counted arcs.now index.counts },
-    ghost filed: { Filed arcs.now index.targets },
+    ghost begun: { Begun rows.now index.starts },
+    ghost filed: { Filed arcs.now index.nexts },
 }
 
 impl<'a> StepTable<'a> {
@@ -40,11 +44,16 @@ impl<'a> StepTable<'a> {
             rows: &[],
             arcs: &[],
             index: Index {
-                starts: [0; 256],
-                start_count: 0,
-                counts: [0; 256],
-                targets: [0; 16384],
+                starts: Short::new(),
+                nexts: no_nexts(),
             },
         }
     }
+}
+
+// No next codes for any row.
+pub(crate) fn no_nexts() -> Nexts
+    ensures { Filed [] result }
+{
+    array::from_fn(|_| Short::new())
 }

@@ -21,11 +21,7 @@ fn filled<'a>(rows: &'a [Row], arcs: &'a [Arc]) -> Result<(), Refusal> {
 }
 
 fn refused(cause: Cause, place: usize) -> Result<(), Refusal> {
-    Err(Refusal {
-        layer: Layer::Steps,
-        cause,
-        place,
-    })
+    Err(Refusal::new(Layer::Steps, cause, place))
 }
 
 #[test]
@@ -136,8 +132,8 @@ fn rows_and_arcs_are_counted(rt: HostRuntime) {
 
 // Sixteen arcs from each row.
 fn spread(arcs: &mut [Arc]) {
-    for number in 0..arcs.len() {
-        arcs[number].from = (number / 16 % 256) as u16;
+    for (number, arc) in arcs.iter_mut().enumerate() {
+        arc.from = (number / 16 % 256) as u16;
     }
 }
 

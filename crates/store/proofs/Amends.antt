@@ -1,5 +1,5 @@
 -- What a change at one place of a list leaves. Assumes nothing.
-use Rattle.std.proofs.Common.{◌≡◌, ℕ, zero, suc, ◌<◌, List, [], ◌∷◌, map, length, get_or, drop, set, refl, ap, arith}
+use Rattle.std.proofs.Common.{◌≡◌, ℕ, zero, suc, ◌<◌, List, [], ◌∷◌, ◌++◌, map, length, get_or, drop, set, refl, ap, arith}
 use Rattle.store.specs.Chains.{pick}
 use Rattle.store.specs.Steps.{amend}
 
@@ -18,6 +18,12 @@ module _ {A : Type 0} where
   length_amend f [] i = refl
   length_amend f (x ∷ xs) zero = refl
   length_amend f (x ∷ xs) (suc i) = ap suc (length_amend f xs i)
+
+  -- a change in the front of a list leaves the rest
+  pub amend_front : (f : A → A) (xs ys : List A) (i : ℕ) → i < length xs → amend f (xs ++ ys) i ≡ amend f xs i ++ ys
+  amend_front f [] ys i h = absurd (omega arith)
+  amend_front f (x ∷ xs) ys zero h = refl
+  amend_front f (x ∷ xs) ys (suc i) h = ap (λ l. x ∷ l) (amend_front f xs ys i (omega arith))
 
   pub drop_amend : (f : A → A) (n : ℕ) (xs : List A) (i : ℕ) → i < n → drop n (amend f xs i) ≡ drop n xs
   drop_amend f zero xs i h = absurd (omega arith)

@@ -1,7 +1,7 @@
 -- What entering one more record in the chains does to a table. Assumes nothing.
-use Rattle.std.proofs.Common.{◌≡◌, ℕ, zero, suc, ◌+◌, ◌<◌, ◌≤◌, ltb, List, map, length, take, drop, set, sym, refl, ap, ◌∙◌, subst, inl, inr, add-one, arith}
+use Rattle.std.proofs.Common.{◌≡◌, ℕ, zero, suc, ◌+◌, ◌<◌, ◌≤◌, ltb, List, ◌++◌, map, length, take, drop, set, sym, refl, ap, ◌∙◌, subst, inl, inr, add-one, arith}
 use Rattle.std.proofs.lemmas.Nat.{mod_below, pow_pos}
-use Rattle.std.proofs.lemmas.List.{take-map, take_more_set, map_push, length-map}
+use Rattle.std.proofs.lemmas.List.{take-map, take_more_set, map_push, length-map, length-take-le, take-append-drop}
 use Rattle.std.proofs.lemmas.Bool.{cond_both, ltb-true, ltb-false, cases_eq}
 use Rattle.model.specs.Keys.{KeyMeaning}
 use Rattle.store.specs.declared.record.Record.{Record}
@@ -9,7 +9,7 @@ use Rattle.store.specs.Calls.{Grown}
 use Rattle.store.specs.Entries.{entry}
 use Rattle.store.specs.Chains.{Buckets, Linked, Indexed, bucket_of, bucket_at, head_at, next_at}
 use Rattle.store.specs.Steps.{amend, with_head, with_next, cleared, linked, all_linked, entered}
-use Rattle.store.proofs.Amends.{put_amend, length_amend, drop_amend, map_amend, pick_kept, pick_here, pick_other, pick_below}
+use Rattle.store.proofs.Amends.{put_amend, length_amend, amend_front, drop_amend, map_amend, pick_kept, pick_here, pick_other, pick_below}
 use Rattle.store.proofs.Tops.{kept_chains, no_chains, one_more, same_buckets}
 
 -- the entries are the same, and the places from n on
@@ -33,6 +33,20 @@ module _ {K : Type 0} where
   pub same_cleared : (n m : ℕ) (xs : List (Record K)) → m ≤ n → Same n xs (cleared xs m)
   same_cleared n zero xs l = record { entries = refl; beyond = refl }
   same_cleared n (suc b) xs l = same_then n xs (cleared xs b) _ (same_cleared n b xs (omega arith)) (same_head n 0 (cleared xs b) b l)
+
+  -- clearing in the front of a table leaves the rest
+  pub cleared_front : (xs ys : List (Record K)) (m : ℕ) → m ≤ length xs → cleared (xs ++ ys) m ≡ cleared xs m ++ ys
+  cleared_front xs ys zero l = refl
+  cleared_front xs ys (suc b) l =
+      let e = same_length b xs (cleared xs b) (same_cleared b b xs (omega arith)) in
+      ap (λ zs. amend (with_head 0) zs b) (cleared_front xs ys b (omega arith)) ∙ amend_front (with_head 0) (cleared xs b) ys b (omega arith)
+
+  -- clearing the front of a table, taken by itself
+  pub cleared_taken : (m : ℕ) (xs hs : List (Record K)) → m ≤ length xs → hs ≡ cleared (take m xs) (length (take m xs)) → hs ++ drop m xs ≡ cleared xs m
+  cleared_taken m xs hs l e =
+      let n : length (take m xs) ≡ m = length-take-le m xs l in
+      ap (λ zs. zs ++ drop m xs) (e ∙ ap (cleared (take m xs)) n)
+      ∙ sym (cleared_front (take m xs) (drop m xs) m (omega arith)) ∙ ap (λ zs. cleared zs m) (take-append-drop m xs)
 
   -- the heads of the cleared buckets
   pub cleared_heads : (m : ℕ) (xs : List (Record K)) → m ≤ length xs → (b : ℕ) → b < m → head_at (cleared xs m) b ≡ 0

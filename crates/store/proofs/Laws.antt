@@ -1,7 +1,7 @@
 -- What callers use of the store's definitions. Assumes nothing.
-use Rattle.std.proofs.Common.{◌≡◌, ℕ, zero, suc, ◌+◌, ◌<◌, ◌≤◌, true, List, [], ◌∷◌, map, length, get_or, take, is_some, Some, None, Option, sym, refl, ap, ◌∙◌, subst, inl, inr, arith}
+use Rattle.std.proofs.Common.{◌≡◌, ℕ, zero, suc, ◌+◌, ◌-◌, ◌<◌, ◌≤◌, true, List, [], ◌∷◌, map, length, get_or, take, drop, is_some, Some, None, Option, sym, refl, ap, ◌∙◌, subst, inl, inr, arith}
 use Rattle.std.proofs.lemmas.Nat.{pow_pos}
-use Rattle.std.proofs.lemmas.List.{length-map, length-take-le, take-map, take-take, take_at}
+use Rattle.std.proofs.lemmas.List.{drop-drop, length-map, length-take-le, take-map, take-take, take_at}
 use Rattle.std.proofs.lemmas.Bool.{or_cases, or_left, or_right, cases_Bool, true≢false}
 use Rattle.model.specs.Cells.{In, at}
 use Rattle.model.specs.Keys.{KeyMeaning}
@@ -11,7 +11,19 @@ use Rattle.store.specs.Chains.{Indexed, pick, bucket_of, bucket_at, head_at, nex
 use Rattle.model.specs.Entries.{Entry}
 use Rattle.store.specs.Entries.{entry, entries, keys, Found, known}
 use Rattle.store.proofs.Tops.{kept_chains}
-use Rattle.store.proofs.Walks.{place_in}
+use Rattle.store.proofs.Walks.{never_some, place_in}
+
+-- more places beyond are the same too
+pub beyond_more : {A : Type 0} (xs ys : List A) (m n : ℕ) → m ≤ n → drop m ys ≡ drop m xs → drop n ys ≡ drop n xs
+beyond_more xs ys m n h e =
+    let d : n ≡ m + (n - m) = omega arith in
+    ap (λ k. drop k ys) d ∙ sym (drop-drop (n - m) m ys) ∙ ap (drop (n - m)) e ∙ drop-drop (n - m) m xs ∙ ap (λ k. drop k xs) (sym d)
+
+-- nothing stands at a place only past the end
+pub at_none : {A : Type 0} (xs : List A) (i : ℕ) → at xs i ≡ None → length xs ≤ i
+at_none [] i e = omega arith
+at_none (x ∷ xs) zero e = absurd (never_some x (sym e))
+at_none (x ∷ xs) (suc i) e = omega (arith, at_none xs i e)
 
 module _ {K : Type 0} where
   -- a table of at most a million places can store as many records
@@ -49,7 +61,7 @@ module _ {K : Type 0} (kind : KeyMeaning K) where
     chains = λ m p. absurd (let some : 0 < m = subst (λ x. 0 < x) (sym p.power.1) (pow_pos p.power.0) in omega (arith, p.within));
   }
 
-  known_in : (es : List (Entry K)) (k : K) → known kind es k ≡ true → In k (keys es)
+  pub known_in : (es : List (Entry K)) (k : K) → known kind es k ≡ true → In k (keys es)
   known_in [] k t = absurd (true≢false (sym t))
   known_in (e ∷ es) k t =
       elim (or_cases (kind.alike e.key k) (known kind es k) t) [
@@ -57,7 +69,7 @@ module _ {K : Type 0} (kind : KeyMeaning K) where
         | inr h ↦ inr (known_in es k h)
       ]
 
-  in_known : (es : List (Entry K)) (k : K) → In k (keys es) → known kind es k ≡ true
+  pub in_known : (es : List (Entry K)) (k : K) → In k (keys es) → known kind es k ≡ true
   in_known [] k h = absurd h
   in_known (e ∷ es) k (inl h) = or_left (kind.alike e.key k) (known kind es k) (subst (λ x. kind.alike x k ≡ true) h (kind.complete k))
   in_known (e ∷ es) k (inr h) = or_right (kind.alike e.key k) (known kind es k) (in_known es k h)

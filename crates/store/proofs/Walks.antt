@@ -13,7 +13,7 @@ use Rattle.store.proofs.Tops.{top_le, top_above, top_again, top_hit, same_bucket
 same_some : {A : Type 0} (x y : A) → ◌≡◌ {A = Option A} (Some x) (Some y) → x ≡ y
 same_some x y e = cc
 
-never_some : {A : Type 0} (x : A) → ◌≡◌ {A = Option A} None (Some x) → ⊥
+pub never_some : {A : Type 0} (x : A) → ◌≡◌ {A = Option A} None (Some x) → ⊥
 never_some x e = let z : ◌≡◌ {A = ℕ} 0 1 = cc in omega arith
 
 -- what is among the elements has a place

@@ -1,10 +1,11 @@
 -- What looking a key up and adding one answer, and what adding does to the table. Assumes nothing.
-use Rattle.std.specs.Prelude.{◌≡◌, ℕ, ◌+◌, ◌<◌, ◌≤◌, min, List, [], ◌∷◌, ◌++◌, length, drop, Some, None, Option}
+use Rattle.std.specs.Prelude.{◌≡◌, ℕ, ◌+◌, ◌<◌, ◌≤◌, min, List, [], ◌∷◌, ◌++◌, length, drop, Some, None, Option, Ok, Err, Result}
 use Rattle.model.specs.Cells.{at}
 use Rattle.model.specs.Keys.{KeyMeaning}
 use Rattle.store.specs.declared.record.Record.{Record}
 use Rattle.store.specs.declared.adding.Added.{Added}
-use Rattle.store.specs.declared.adding.Added.TheVariants.{Known, New, NoPlace}
+use Rattle.store.specs.declared.adding.Added.TheVariants.{Known, New}
+use Rattle.store.specs.declared.adding.NoPlace.{NoPlace}
 use Rattle.store.specs.Entries.{entries, keys, Found}
 use Rattle.store.specs.Chains.{Indexed}
 
@@ -33,7 +34,7 @@ pub record Grown {K : Type 0} (xs ys : List (Record K)) (n : ℕ) (k : K) (f : �
 
 -- the answer to adding key k, reached from place f, to the first n records of xs, which leaves ys: only a new key
 -- changes the table, and records that were indexed are indexed with it
-abbrev pub AddedSo : {K : Type 0} → KeyMeaning K → List (Record K) → List (Record K) → ℕ → K → ℕ → Added → Type 0
-AddedSo kind xs ys n k f (Known i) = (ys ≡ xs) × FoundSo kind xs n k (Some i)
-AddedSo kind xs ys n k f New = FoundSo kind xs n k None × Grown xs ys n k f × (Indexed kind xs n → Indexed kind ys (n + 1))
-AddedSo kind xs ys n k f NoPlace = (ys ≡ xs) × FoundSo kind xs n k None × (places xs ≤ n)
+abbrev pub AddedSo : {K : Type 0} → KeyMeaning K → List (Record K) → List (Record K) → ℕ → K → ℕ → Result Added NoPlace → Type 0
+AddedSo kind xs ys n k f (Ok (Known i)) = (ys ≡ xs) × FoundSo kind xs n k (Some i)
+AddedSo kind xs ys n k f (Ok New) = FoundSo kind xs n k None × Grown xs ys n k f × (Indexed kind xs n → Indexed kind ys (n + 1))
+AddedSo kind xs ys n k f (Err e) = (ys ≡ xs) × FoundSo kind xs n k None × (places xs ≤ n)

@@ -11,10 +11,10 @@ amend f (x ∷ xs) zero = f x ∷ xs
 amend f (x ∷ xs) (suc i) = x ∷ amend f xs i
 
 abbrev pub with_head : {K : Type 0} → ℕ → Record K → Record K
-with_head h r = record { key = r.key; from = r.from; head = h; next = r.next }
+with_head h r = record r { head = h }
 
 abbrev pub with_next : {K : Type 0} → ℕ → Record K → Record K
-with_next v r = record { key = r.key; from = r.from; head = r.head; next = v }
+with_next v r = record r { next = v }
 
 -- the heads of the first m buckets cleared
 abbrev pub cleared : {K : Type 0} → List (Record K) → ℕ → List (Record K)

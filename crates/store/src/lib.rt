@@ -8,6 +8,6 @@ mod record;
 #[cfg(test)]
 mod tests;
 
-pub use adding::{Added, add};
+pub use adding::{Added, NoPlace, add, keep};
 pub use lookup::find;
-pub use record::Record;
+pub use record::{MOST_PLACES, Record};

@@ -4,6 +4,10 @@ ghost use Rattle.store.specs.Entries.{entry};
 
 use model::Key;
 
+// A table that a check or a survey is given has no more places than this.
+pub const MOST_PLACES: usize = 1_000_000;
+
+// A link is a number, with 0 for none: an Option would make every record of the caller's table eight bytes longer.
 #[derive(Clone, Copy)]
 pub struct Record<K> {
     pub key: K,

@@ -1,13 +1,13 @@
 // Examples and limits of the store, on keys that are codes.
-use crate::{Added, Record, add, find};
+use crate::{Added, NoPlace, Record, add, find, keep};
 use std::process::Abort;
 
 #[test]
 fn stores_in_order(rt: HostRuntime) {
     let mut table = [Record::new(0u64); 3];
-    assert_eq!(rt; add(&mut table, 0, 70, 5), Added::New);
-    assert_eq!(rt; add(&mut table, 1, 30, 6), Added::New);
-    assert_eq!(rt; add(&mut table, 2, 70, 7), Added::Known(0));
+    assert_eq!(rt; add(&mut table, 0, 70, 5), Ok(Added::New));
+    assert_eq!(rt; add(&mut table, 1, 30, 6), Ok(Added::New));
+    assert_eq!(rt; add(&mut table, 2, 70, 7), Ok(Added::Known(0)));
     assert_eq!(rt; find(&table, 2, &30), Some(1));
     assert_eq!(rt; find(&table, 2, &0), None);
     assert_eq!(rt; (table[0].key, table[0].from), (70, 5));
@@ -17,11 +17,21 @@ fn stores_in_order(rt: HostRuntime) {
 #[test]
 fn fills_to_the_last_place(rt: HostRuntime) {
     let mut table = [Record::new(9u64); 2];
-    assert_eq!(rt; add(&mut table, 0, 1, 0), Added::New);
-    assert_eq!(rt; add(&mut table, 1, 2, 0), Added::New);
-    assert_eq!(rt; add(&mut table, 2, 2, 0), Added::Known(1));
-    assert_eq!(rt; add(&mut table, 2, 3, 0), Added::NoPlace);
-    assert_eq!(rt; add(&mut [], 0, 3, 0), Added::NoPlace);
+    assert_eq!(rt; add(&mut table, 0, 1, 0), Ok(Added::New));
+    assert_eq!(rt; add(&mut table, 1, 2, 0), Ok(Added::New));
+    assert_eq!(rt; add(&mut table, 2, 2, 0), Ok(Added::Known(1)));
+    assert_eq!(rt; add(&mut table, 2, 3, 0), Err(NoPlace));
+    assert_eq!(rt; add(&mut [], 0, 3, 0), Err(NoPlace));
+}
+
+#[test]
+fn keeps_what_is_new(rt: HostRuntime) {
+    let mut table = [Record::new(9u64); 2];
+    assert_eq!(rt; keep(&mut table, 0, 1, 4), Ok(1));
+    assert_eq!(rt; keep(&mut table, 1, 1, 5), Ok(1));
+    assert_eq!(rt; keep(&mut table, 1, 2, 6), Ok(2));
+    assert_eq!(rt; keep(&mut table, 2, 3, 7), Err(NoPlace));
+    assert_eq!(rt; (table[0].from, table[1].from), (4, 6));
 }
 
 // What a place held before is not looked at.
@@ -29,13 +39,13 @@ fn fills_to_the_last_place(rt: HostRuntime) {
 fn starts_empty(rt: HostRuntime) {
     let mut table = [Record::new(4u64); 2];
     assert_eq!(rt; find(&table, 0, &4), None);
-    assert_eq!(rt; add(&mut table, 0, 4, 0), Added::New);
+    assert_eq!(rt; add(&mut table, 0, 4, 0), Ok(Added::New));
 }
 
 // Nine keys, so that the chains are linked again at one, two, four and eight.
 fn fill(rt: &impl Abort, table: &mut [Record<u64>]) {
     for place in 0..9 {
-        assert_eq!(rt; add(table, place, place as u64 * 64, 0), Added::New);
+        assert_eq!(rt; add(table, place, place as u64 * 64, 0), Ok(Added::New));
     }
 }
 

@@ -1,17 +1,19 @@
 -- The table while codes are met: what one more leaves, and how steps follow one another. Assumes nothing.
-use Rattle.std.proofs.Common.{◌≡◌, ℕ, zero, suc, ◌+◌, ◌<◌, ◌≤◌, List, [], ◌∷◌, ◌++◌, length, get_or, take, drop, Some, None, sym, refl, ap, ◌∙◌, subst, add-one, arith}
-use Rattle.std.proofs.lemmas.List.{length_push, take_all, take_at, drop-drop, take-append-drop, get_or_default}
+use Rattle.std.proofs.Common.{◌≡◌, ℕ, zero, suc, ◌+◌, ◌<◌, ◌≤◌, false, List, [], ◌∷◌, ◌++◌, length, get_or, take, drop, Some, Ok, Err, Result, sym, refl, ap, ◌∙◌, subst, add-one, arith}
+use Rattle.std.proofs.lemmas.List.{length_push, take_all, take_at, take-append-drop, get_or_default}
 use Rattle.model.specs.Cells.{CellMeaning, at}
 use Rattle.model.specs.Entries.{Entry}
 use Rattle.model.specs.Keys.{code_key}
 use Rattle.store.specs.declared.record.Record.{Record}
-use Rattle.store.specs.declared.adding.Added.TheVariants.{Known, New, NoPlace}
-use Rattle.store.specs.Calls.{AddedSo}
+use Rattle.store.specs.declared.adding.NoPlace.{NoPlace}
+use Rattle.store.specs.Keeping as keeping
+use Rattle.store.specs.Keeping.{Kept, now_stored, old, new, no_place}
 use Rattle.store.specs.Chains.{Indexed}
-use Rattle.store.specs.Entries.{entry, entries}
-use Rattle.store.proofs.Laws.{entries_length, entry_read, found_known, places_all, none_indexed}
-use Rattle.levels.proofs.Lists.{some_injective, some_none, below_at}
-use Rattle.survey.specs.Held.{Held, Packed}
+use Rattle.store.specs.Calls.{places}
+use Rattle.store.specs.Entries.{entry, entries, known}
+use Rattle.store.proofs.Laws.{beyond_more, entries_length, entry_read, places_all}
+use Rattle.levels.proofs.Lists.{some_injective, some_none}
+use Rattle.survey.specs.Held.{Held, Packed, KeptSo}
 use Rattle.survey.specs.Order.{Met, meet, gather, visit, walked}
 use Rattle.survey.proofs.Meeting.{meet_known, meet_new, Begins, begins_long, begins_take, meet_begins, gather_begins, gather_append, gather_push}
 use Rattle.survey.proofs.Walking.{visit_is}
@@ -22,52 +24,33 @@ Table = List (Record ℕ)
 pub held_length : (xs ys : Table) (m : ℕ) (es : Met) → Held xs ys m es → length es ≡ m
 held_length xs ys m es h = sym (ap length h.stored) ∙ entries_length ys m h.indexed.within
 
--- with nothing met, any table will do
-pub held_none : (xs : Table) → Held xs xs 0 []
-held_none xs = record { stored = refl; indexed = none_indexed code_key xs; long = refl; beyond = refl }
-
 -- a table whose records are indexed holds their entries
-pub held_itself : (xs : Table) (m : ℕ) → Indexed code_key xs m → Held xs xs m (entries xs m)
-held_itself xs m ix = record { stored = refl; indexed = ix; long = refl; beyond = refl }
+pub held_itself : (xs : Table) (m : ℕ) → Indexed code_key xs m → m ≤ 4294967295 → Held xs xs m (entries xs m)
+held_itself xs m ix small = record { stored = refl; indexed = ix; fits = omega (arith, ix.within); long = refl; beyond = refl }
 
-module _ (xs ys : Table) (n k f : ℕ) (small : length xs ≤ 1000000) (ix : Indexed code_key xs n) where
-  -- the code was met before
-  pub kept_known : (i : ℕ) → AddedSo code_key xs ys n k f (Known i) → Held xs ys n (meet (entries xs n) k f)
-  kept_known i a =
-      let t = sym (found_known code_key (entries xs n) k (Some i) (a.1.1 ix)) in
-      subst (λ zs. Held xs zs n (meet (entries xs n) k f)) (sym a.0) (record { stored = sym (meet_known (entries xs n) k f t); indexed = ix; long = refl; beyond = refl })
-
-  -- the code is new
-  pub kept_new : AddedSo code_key xs ys n k f New → Held xs ys (n + 1) (meet (entries xs n) k f)
-  kept_new a =
-      let t = sym (found_known code_key (entries xs n) k None (a.0 ix)) in
-      record { stored = a.1.stored ∙ sym (meet_new (entries xs n) k f t); indexed = a.2 ix; long = a.1.long; beyond = a.1.beyond }
+module _ (xs ys : Table) (n k f : ℕ) where
+  abbrev met : Met
+  met = meet (entries xs n) k f
 
   -- the code is new and finds no place
-  pub kept_none : AddedSo code_key xs ys n k f NoPlace → Packed xs ys (meet (entries xs n) k f)
-  kept_none a =
-      let t = sym (found_known code_key (entries xs n) k None (a.1 ix)) in
+  kept_none : Indexed code_key xs n → known code_key (entries xs n) k ≡ false → places xs ≤ n → ys ≡ xs → length xs ≤ 1000000 → Packed xs ys met
+  kept_none ix t q same small =
       let e : Entry ℕ = record { key = k; from = f } in
-      let w = ix.within in
-      let all : n ≡ length xs = let p = places_all xs small in let q = a.2 in omega arith in
-      let l = entries_length xs n w in
+      let all : n ≡ length xs = omega (arith, places_all xs small, ix.within) in
+      let l = entries_length xs n ix.within in
       let m = meet_new (entries xs n) k f t in
-      let s = length_push (entries xs n) e in
-      let o : length xs < length (meet (entries xs n) k f) = let q = ap length m in omega arith in
-      let r : entries xs (length xs) ≡ take (length xs) (meet (entries xs n) k f) =
+      let r : entries xs (length xs) ≡ take (length xs) met =
       ap (entries xs) (sym all) ∙ sym (take_at (entries xs n) (e ∷ []) (length xs) (l ∙ all)) ∙ ap (take (length xs)) (sym m) in
-      subst (λ zs. Packed xs zs (meet (entries xs n) k f)) (sym a.0) (record { over = o; stored = r; long = refl })
+      subst (λ zs. Packed xs zs met) (sym same) (record { over = omega (arith, length_push (entries xs n) e, ap length m); stored = r; long = refl })
 
-drop_more_same : (xs ys : Table) (m n : ℕ) → m ≤ n → drop m ys ≡ drop m xs → drop n ys ≡ drop n xs
-drop_more_same xs ys m n h e =
-    let q = over m n h in
-    let s = λ (zs : Table). drop-drop q.0 m zs ∙ ap (λ j. drop j zs) (sym q.1) in
-    sym (s ys) ∙ ap (drop q.0) e ∙ s xs
-  where
-    over : (a b : ℕ) → a ≤ b → (k : ℕ) × (b ≡ a + k)
-    over zero b l = (b, omega arith)
-    over (suc a) zero l = absurd (omega arith)
-    over (suc a) (suc b) l = let q = over a b (omega arith) in let e = q.1 in (q.0, omega arith)
+  kept_by : (r : Result ℕ NoPlace) → Indexed code_key xs n → n ≤ 4294967295 → Kept code_key xs ys n k f r → Indexed code_key ys (now_stored n r) → length ys ≡ length xs → drop (now_stored n r) ys ≡ drop (now_stored n r) xs → KeptSo xs ys met r
+  kept_by r ix small (old t e) i l b = record { stored = ap (λ zs. entries zs n) e ∙ sym (meet_known (entries xs n) k f t); indexed = i; fits = omega (arith, i.within); long = l; beyond = b }
+  kept_by r ix small (new t q e) i l b = record { stored = e ∙ sym (meet_new (entries xs n) k f t); indexed = i; fits = omega arith; long = l; beyond = b }
+  kept_by r ix small (no_place t q e) i l b = kept_none ix t q e
+
+  -- keeping a code in the table meets it
+  pub kept_met : (r : Result ℕ NoPlace) → Indexed code_key xs n → n ≤ 4294967295 → keeping.KeptSo code_key xs ys n k f r → KeptSo xs ys met r
+  kept_met r ix small s = kept_by r ix small (s.kept ix) (s.indexed ix) s.long s.beyond
 
 -- one step after the other
 pub held_then : (xs ys zs : Table) (m n : ℕ) (es fs : Met) → Held xs ys m es → Held ys zs n fs → Begins es fs → Held xs zs n fs
@@ -75,7 +58,7 @@ held_then xs ys zs m n es fs h g b =
     let l = begins_long es fs b in
     let p = held_length xs ys m es h in
     let q = held_length ys zs n fs g in
-    record { stored = g.stored; indexed = g.indexed; long = g.long ∙ h.long; beyond = g.beyond ∙ drop_more_same xs ys m n (omega arith) h.beyond }
+    record { stored = g.stored; indexed = g.indexed; fits = g.fits; long = g.long ∙ h.long; beyond = g.beyond ∙ beyond_more xs ys m n (omega arith) h.beyond }
 
 pub packed_then : (xs ys zs : Table) (es : Met) → length ys ≡ length xs → Packed ys zs es → Packed xs zs es
 packed_then xs ys zs es e p =
@@ -110,43 +93,34 @@ module _ (g : Met → ℕ) (ks : List ℕ) (es : Met) (i k : ℕ) (here : at ks 
   met_is : meet (entries ys m) k (g so_far) ≡ gather g (take (i + 1) ks) es
   met_is = ap (λ ds. meet ds k (g so_far)) h.stored ∙ sym next_is
 
-  pub gathered : (n : ℕ) → Held ys zs n (meet (entries ys m) k (g so_far)) → Held xs zs n (gather g (take (i + 1) ks) es)
+  kept_here : (r : Result ℕ NoPlace) → keeping.KeptSo code_key ys zs m k (g so_far) r → KeptSo ys zs (meet (entries ys m) k (g so_far)) r
+  kept_here r q = kept_met ys zs m k (g so_far) r h.indexed (omega (arith, h.fits)) q
+
+  pub gathered : (n : ℕ) → keeping.KeptSo code_key ys zs m k (g so_far) (Ok n) → Held xs zs n (gather g (take (i + 1) ks) es)
   gathered n q =
       held_as xs zs n (meet (entries ys m) k (g so_far)) (gather g (take (i + 1) ks) es) met_is
-      (held_then xs ys zs m n so_far (meet (entries ys m) k (g so_far)) h q (subst (λ ds. Begins so_far (meet ds k (g so_far))) (sym h.stored) (meet_begins so_far k (g so_far))))
+      (held_then xs ys zs m n so_far (meet (entries ys m) k (g so_far)) h (kept_here (Ok n) q) (subst (λ ds. Begins so_far (meet ds k (g so_far))) (sym h.stored) (meet_begins so_far k (g so_far))))
 
-  pub gathered_none : Packed ys zs (meet (entries ys m) k (g so_far)) → Packed xs zs (gather g ks es)
-  gathered_none q =
+  pub gathered_none : (e : NoPlace) → keeping.KeptSo code_key ys zs m k (g so_far) (Err e) → length xs ≤ 1000000 → Packed xs zs (gather g ks es)
+  gathered_none e q small =
       packed_more xs zs (gather g (take (i + 1) ks) es) (gather g ks es)
-      (subst (Packed xs zs) met_is (packed_then xs ys zs (meet (entries ys m) k (g so_far)) h.long q))
+      (subst (Packed xs zs) met_is (packed_then xs ys zs (meet (entries ys m) k (g so_far)) h.long (kept_here (Err e) q (omega (arith, h.long)))))
       (subst (λ l. Begins (gather g (take (i + 1) ks) es) (gather g l es)) (take-append-drop (i + 1) ks) (subst (λ ds. Begins (gather g (take (i + 1) ks) es) ds) (sym (gather_append g (take (i + 1) ks) (drop (i + 1) ks) es)) (gather_begins g (drop (i + 1) ks) (gather g (take (i + 1) ks) es))))
 
 -- the whole list was gone through
 pub gathered_all : (g : Met → ℕ) (ks : List ℕ) (es : Met) (i : ℕ) (xs ys : Table) (m : ℕ) → length ks ≤ i → Held xs ys m (gather g (take i ks) es) → Held xs ys m (gather g ks es)
 gathered_all g ks es i xs ys m l h = subst (λ l. Held xs ys m (gather g l es)) (take_all i ks l) h
 
-none_past : (ks : List ℕ) (i : ℕ) → at ks i ≡ None → length ks ≤ i
-none_past [] i e = omega arith
-none_past (k ∷ ks) zero e = absurd (some_none e)
-none_past (k ∷ ks) (suc i) e = let h = none_past ks i e in omega arith
-
--- a list goes on to the place after an element, and ends where there is none
-pub some_below : (ks : List ℕ) (i k : ℕ) → Some k ≡ at ks i → i < length ks
-some_below ks i k e = below_at ks i k (sym e)
-
-pub none_above : (ks : List ℕ) (i : ℕ) → None ≡ at ks i → length ks ≤ i
-none_above ks i e = none_past ks i (sym e)
-
 -- the starts, each reached from its own place
 module _ (ks : List ℕ) (i k : ℕ) (here : Some k ≡ at ks i) (xs ys zs : Table) (m : ℕ) (h : Held xs ys m (gather length (take i ks) [])) where
   own : m ≡ length (gather length (take i ks) [])
   own = sym (held_length xs ys m (gather length (take i ks) []) h)
 
-  pub started : (n : ℕ) → Held ys zs n (meet (entries ys m) k m) → Held xs zs n (gather length (take (i + 1) ks) [])
-  started n q = gathered length ks [] i k (sym here) xs ys zs m h n (subst (λ f. Held ys zs n (meet (entries ys m) k f)) own q)
+  pub started : (n : ℕ) → keeping.KeptSo code_key ys zs m k m (Ok n) → Held xs zs n (gather length (take (i + 1) ks) [])
+  started n q = gathered length ks [] i k (sym here) xs ys zs m h n (subst (λ f. keeping.KeptSo code_key ys zs m k f (Ok n)) own q)
 
-  pub started_none : Packed ys zs (meet (entries ys m) k m) → Packed xs zs (gather length ks [])
-  started_none q = gathered_none length ks [] i k (sym here) xs ys zs m h (subst (λ f. Packed ys zs (meet (entries ys m) k f)) own q)
+  pub started_none : (e : NoPlace) → keeping.KeptSo code_key ys zs m k m (Err e) → length xs ≤ 1000000 → Packed xs zs (gather length ks [])
+  started_none e q = gathered_none length ks [] i k (sym here) xs ys zs m h e (subst (λ f. keeping.KeptSo code_key ys zs m k f (Err e)) own q)
 
 -- what a place of the table holds while nothing is known of it
 abbrev pub blank : Record ℕ
@@ -166,15 +140,15 @@ module _ (c : CellMeaning) (xs : Table) (n i : ℕ) (low : i < n) (within : n �
   abbrev pub Visited : Type 0
   Visited = Held xs ys m (gather (λ _. i) (take j codes) (entries xs n))
 
-  pub visited : (zs : Table) (k o : ℕ) → Some k ≡ at codes j → Visited → Held ys zs o (meet (entries ys m) k i) → Held xs zs o (gather (λ _. i) (take (j + 1) codes) (entries xs n))
+  pub visited : (zs : Table) (k o : ℕ) → Some k ≡ at codes j → Visited → keeping.KeptSo code_key ys zs m k i (Ok o) → Held xs zs o (gather (λ _. i) (take (j + 1) codes) (entries xs n))
   visited zs k o here h q = gathered (λ _. i) codes (entries xs n) j k (sym here) xs ys zs m h o q
 
-  pub visited_none : (zs : Table) (k : ℕ) → Some k ≡ at codes j → Visited → Packed ys zs (meet (entries ys m) k i) → Packed xs zs (visit c i (entries xs n) (at (entries xs n) i))
-  visited_none zs k here h q = subst (Packed xs zs) (sym (visit_read c xs n i low within)) (gathered_none (λ _. i) codes (entries xs n) j k (sym here) xs ys zs m h q)
+  pub visited_none : (zs : Table) (k : ℕ) (e : NoPlace) → Some k ≡ at codes j → Visited → keeping.KeptSo code_key ys zs m k i (Err e) → length xs ≤ 1000000 → Packed xs zs (visit c i (entries xs n) (at (entries xs n) i))
+  visited_none zs k e here h q small =
+      subst (Packed xs zs) (sym (visit_read c xs n i low within)) (gathered_none (λ _. i) codes (entries xs n) j k (sym here) xs ys zs m h e q small)
 
-  pub visited_all : None ≡ at codes j → Visited → Held xs ys m (visit c i (entries xs n) (at (entries xs n) i))
-  visited_all past h =
-      subst (Held xs ys m) (sym (visit_read c xs n i low within)) (gathered_all (λ _. i) codes (entries xs n) j xs ys m (none_above codes j past) h)
+  pub visited_all : length codes ≤ j → Visited → Held xs ys m (visit c i (entries xs n) (at (entries xs n) i))
+  visited_all past h = subst (Held xs ys m) (sym (visit_read c xs n i low within)) (gathered_all (λ _. i) codes (entries xs n) j xs ys m past h)
 
 -- the same for a table of the same length
 pub packed_as : (c : CellMeaning) (xs ys zs : Table) → length ys ≡ length xs → Packed ys zs (walked c (length ys)) → Packed xs zs (walked c (length xs))

@@ -8,22 +8,18 @@ use Rattle.model.specs.Runs.{Path, last}
 use Rattle.levels.specs.Law.{Distinct}
 use Rattle.levels.proofs.Lists.{some_injective, some_none, at_below, below_at}
 use Rattle.store.specs.Entries.{keys}
+use Rattle.store.proofs.Walks.{place_in}
 use Rattle.survey.specs.Order.{Met, visit, walked}
 use Rattle.survey.specs.Reach.{RunTo, Levelled}
-use Rattle.survey.proofs.Meeting.{begins_long, begins_at, gather_at, path_push}
+use Rattle.survey.proofs.Meeting.{at_keys, begins_long, begins_at, gather_at, path_push}
 use Rattle.survey.proofs.Walking.{walked_step, walked_begins, walked_still, walked_sound, starts_met, nexts_met, key_at}
-
-in_at : (xs : List ℕ) (p x : ℕ) → at xs p ≡ Some x → In x xs
-in_at [] p x h = absurd (some_none (sym h))
-in_at (y ∷ ys) zero x h = inl (sym (some_injective h))
-in_at (y ∷ ys) (suc p) x h = inr (in_at ys p x h)
 
 -- the same thing at two places of different things
 one_place : (xs : List ℕ) (p q x : ℕ) → Distinct xs → at xs p ≡ Some x → at xs q ≡ Some x → p ≡ q
 one_place [] p q x d h k = absurd (some_none (sym h))
 one_place (y ∷ ys) zero zero x d h k = refl
-one_place (y ∷ ys) zero (suc q) x d h k = absurd (d.0 (subst (λ z. In z ys) (sym (some_injective h)) (in_at ys q x k)))
-one_place (y ∷ ys) (suc p) zero x d h k = absurd (d.0 (subst (λ z. In z ys) (sym (some_injective k)) (in_at ys p x h)))
+one_place (y ∷ ys) zero (suc q) x d h k = absurd (d.0 (subst (λ z. In z ys) (sym (some_injective h)) (place_in x ys q k)))
+one_place (y ∷ ys) (suc p) zero x d h k = absurd (d.0 (subst (λ z. In z ys) (sym (some_injective k)) (place_in x ys p h)))
 one_place (y ∷ ys) (suc p) (suc q) x d h k = ap suc (one_place ys p q x d.1 h k)
 
 -- the entry of a key at a place
@@ -31,11 +27,6 @@ entry_at : (es : Met) (p x : ℕ) → at (keys es) p ≡ Some x → (e : Entry �
 entry_at [] p x h = absurd (some_none (sym h))
 entry_at (e ∷ es) zero x h = (e, refl, some_injective h)
 entry_at (e ∷ es) (suc p) x h = entry_at es p x h
-
-keys_at : (es : Met) (p : ℕ) (e : Entry ℕ) → at es p ≡ Some e → at (keys es) p ≡ Some e.key
-keys_at [] p e h = absurd (some_none (sym h))
-keys_at (d ∷ ds) zero e h = ap (λ (r : Entry ℕ). Some r.key) (some_injective h)
-keys_at (d ∷ ds) (suc p) e h = keys_at ds p e h
 
 module _ (c : CellMeaning) where
   -- code x is reached in j steps
@@ -156,7 +147,7 @@ module _ (c : CellMeaning) where
       let s = steps_of ys y r in
       let e = entry_at (walked c i) p x hx in
       let k = sooner i s.0 y p e.0 s.1 e.1 (λ t d m n.
-      let o = one_place (keys (walked c i)) t q y (walked_sound c i).apart (keys_at (walked c i) t d m ∙ ap Some n) hy in omega arith) in
+      let o = one_place (keys (walked c i)) t q y (walked_sound c i).apart (at_keys (walked c i) t d m ∙ ap Some n) hy in omega arith) in
       let w = run_of k.0 x (subst (After k.0) e.2 k.2) in
       let a = k.1 in let b = s.2 in let d = w.2 in
       (w.0, w.1, omega arith)

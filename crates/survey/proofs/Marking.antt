@@ -1,8 +1,9 @@
 -- Marking labels one code after the other. Assumes nothing.
-use Rattle.std.proofs.Common.{◌≡◌, ℕ, ◌+◌, ◌<◌, Bool, true, false, cond, List, [], ◌∷◌, length, get_or, set, replicate, Some, None, sym, ap, ◌∙◌, subst, inl, inr, ⊎_elim, arith}
+use Rattle.std.proofs.Common.{◌≡◌, ℕ, ◌+◌, ◌<◌, Bool, true, false, cond, List, [], ◌∷◌, length, get_or, set, replicate, Some, None, Option, sym, ap, ◌∙◌, subst, inl, inr, ⊎_elim, arith}
 use Rattle.std.proofs.lemmas.List.{get_or-replicate, length-replicate, length-set, get_or-set_same, get_or-set_other, map_more, map-append}
 use Rattle.std.proofs.lemmas.Bool.{cases_eq, cases_Bool, cond-true, cond-false, true≢false}
 use Rattle.model.specs.Cells.{CellMeaning, In}
+use Rattle.model.specs.declared.moment.Reading.{Reading}
 use Rattle.store.specs.declared.record.Record.{Record}
 use Rattle.store.specs.Entries.{entry, entries, keys}
 use Rattle.levels.proofs.Lists.{push, in_push, in_push_new, some_injective, some_none}
@@ -58,25 +59,28 @@ module _ (c : CellMeaning) (ks : List ℕ) (ls : List Bool) (m : Marked c ks ls)
 keys_more : (xs : List (Record ℕ)) (i : ℕ) → i < length xs → keys (entries xs (i + 1)) ≡ push (keys (entries xs i)) (get_or xs i blank).key
 keys_more xs i h = ap keys (map_more entry xs i blank h) ∙ map-append (λ e. e.key) (entries xs i) (entry (get_or xs i blank) ∷ [])
 
--- the code at a place, with the label that was found
+-- the code at a place, with what was read of it
 module _ (c : CellMeaning) (xs : List (Record ℕ)) (i : ℕ) (low : i < length xs) (ls : List Bool) (m : Marked c (keys (entries xs i)) ls) where
   abbrev code : ℕ
   code = (get_or xs i blank).key
 
-  pub marked_some : (l : ℕ) (ls' : List Bool) → Some l ≡ cond (c.state code) (Some (c.reads code).label) None → ls' ≡ set ls l true → Marked c (keys (entries xs (i + 1))) ls'
-  marked_some l ls' e w =
+  abbrev read : Option Reading
+  read = cond (c.state code) (Some (c.reads code)) None
+
+  pub marked_some : (r : Reading) (ls' : List Bool) → Some r ≡ read → ls' ≡ set ls r.label true → Marked c (keys (entries xs (i + 1))) ls'
+  marked_some r ls' e w =
       elim (cases_Bool (c.state code)) [
         | inl t ↦
-            let is : l ≡ (c.reads code).label = some_injective (e ∙ cond-true (c.state code) (Some (c.reads code).label) None t) in
-            subst (Marked c (keys (entries xs (i + 1)))) (ap (λ z. set ls z true) (sym is) ∙ sym w)
+            let is : r ≡ c.reads code = some_injective (e ∙ cond-true (c.state code) (Some (c.reads code)) None t) in
+            subst (Marked c (keys (entries xs (i + 1)))) (ap (λ (z : Reading). set ls z.label true) (sym is) ∙ sym w)
             (subst (λ ks. Marked c ks (set ls (c.reads code).label true)) (sym (keys_more xs i low)) (mark_more c (keys (entries xs i)) ls m code t))
-        | inr t ↦ absurd (some_none (e ∙ cond-false (c.state code) (Some (c.reads code).label) None t))
+        | inr t ↦ absurd (some_none (e ∙ cond-false (c.state code) (Some (c.reads code)) None t))
       ]
 
-  pub marked_rest : (ls' : List Bool) → None ≡ cond (c.state code) (Some (c.reads code).label) None → ls' ≡ ls → Marked c (keys (entries xs (i + 1))) ls'
+  pub marked_rest : (ls' : List Bool) → None ≡ read → ls' ≡ ls → Marked c (keys (entries xs (i + 1))) ls'
   marked_rest ls' e w =
       elim (cases_Bool (c.state code)) [
-        | inl t ↦ absurd (some_none (sym (e ∙ cond-true (c.state code) (Some (c.reads code).label) None t)))
+        | inl t ↦ absurd (some_none (sym (e ∙ cond-true (c.state code) (Some (c.reads code)) None t)))
         | inr t ↦
             subst (Marked c (keys (entries xs (i + 1)))) (sym w)
             (subst (λ ks. Marked c ks ls) (sym (keys_more xs i low)) (mark_skip c (keys (entries xs i)) ls m code t))

@@ -1,7 +1,7 @@
 -- Meeting codes one after the other: what stays, and what is added. Assumes nothing.
-use Rattle.std.proofs.Common.{◌≡◌, ℕ, zero, suc, ◌≤◌, true, false, eqb, ◌⊎◌, List, [], ◌∷◌, ◌++◌, length, take, Some, sym, refl, ap, ◌∙◌, subst, inl, inr, ⊎_elim, arith}
+use Rattle.std.proofs.Common.{◌≡◌, ℕ, zero, suc, ◌≤◌, true, false, ◌⊎◌, List, [], ◌∷◌, ◌++◌, length, take, Some, sym, refl, ap, ◌∙◌, subst, inl, inr, ⊎_elim, arith}
 use Rattle.std.proofs.lemmas.List.{append-nil, append_assoc, length-append, map-append, take-append-le}
-use Rattle.std.proofs.lemmas.Bool.{cases_Bool, cond-true, cond-false, or_cases, or_parts, eqb-true, eq-eqb, both_ways, true≢false}
+use Rattle.std.proofs.lemmas.Bool.{cases_Bool, cond-true, cond-false, both_ways}
 use Rattle.model.specs.Cells.{CellMeaning, In, at}
 use Rattle.model.specs.Entries.{Entry}
 use Rattle.model.specs.Keys.{code_key}
@@ -9,17 +9,12 @@ use Rattle.model.specs.Runs.{Run, Path, last}
 use Rattle.levels.specs.Law.{Distinct}
 use Rattle.levels.proofs.Lists.{some_injective, some_none, push, in_push, in_push_new, distinct_push, at_push, at_push_old}
 use Rattle.store.specs.Entries.{keys, known}
+use Rattle.store.proofs.Laws.{known_in, in_known}
 use Rattle.survey.specs.Order.{Met, meet, gather}
 use Rattle.survey.specs.Reach.{Reachable, Origin, Sound}
 
-known_in : (es : Met) (x : ℕ) → known code_key es x ≡ true → In x (keys es)
-known_in [] x t = absurd (true≢false (sym t))
-known_in (e ∷ es) x t = ⊎_elim (λ h. inl (sym (eqb-true e.key x h))) (λ h. inr (known_in es x h)) (or_cases (eqb e.key x) (known code_key es x) t)
-
 known_not : (es : Met) (x : ℕ) → known code_key es x ≡ false → In x (keys es) → ⊥
-known_not [] x t h = h
-known_not (e ∷ es) x t (inl h) = both_ways (eqb e.key x) (or_parts (eqb e.key x) (known code_key es x) t).0 (eq-eqb e.key x (sym h))
-known_not (e ∷ es) x t (inr h) = known_not es x (or_parts (eqb e.key x) (known code_key es x) t).1 h
+known_not es x t h = both_ways (known code_key es x) t (in_known code_key es x h)
 
 pub meet_known : (es : Met) (x f : ℕ) → known code_key es x ≡ true → meet es x f ≡ es
 meet_known es x f t = cond-true (known code_key es x) _ _ t
@@ -29,6 +24,11 @@ meet_new es x f t = cond-false (known code_key es x) _ _ t
 
 keys_push : (es : Met) (e : Entry ℕ) → keys (push es e) ≡ push (keys es) e.key
 keys_push es e = map-append (λ d. d.key) es (e ∷ [])
+
+pub at_keys : (es : Met) (p : ℕ) (e : Entry ℕ) → at es p ≡ Some e → at (keys es) p ≡ Some e.key
+at_keys [] p e h = absurd (some_none (sym h))
+at_keys (d ∷ ds) zero e h = ap (λ (r : Entry ℕ). Some r.key) (some_injective h)
+at_keys (d ∷ ds) (suc p) e h = at_keys ds p e h
 
 -- the second begins with the first
 abbrev pub Begins : Met → Met → Type 0
@@ -72,7 +72,7 @@ meet_begins es x f =
 pub meet_in : (es : Met) (x f : ℕ) → In x (keys (meet es x f))
 meet_in es x f =
     elim (cases_Bool (known code_key es x)) [
-      | inl t ↦ subst (λ l. In x (keys l)) (sym (meet_known es x f t)) (known_in es x t)
+      | inl t ↦ subst (λ l. In x (keys l)) (sym (meet_known es x f t)) (known_in code_key es x t)
       | inr t ↦ subst (λ l. In x (keys l)) (sym (meet_new es x f t)) (subst (λ l. In x l) (sym (keys_push es (record { key = x; from = f }))) (in_push_new x (keys es)))
     ]
 
@@ -147,11 +147,6 @@ module _ (c : CellMeaning) where
       go : (xs : List ℕ) → Run c xs → In x xs → P x
       go [] p q = absurd q
       go (z ∷ zs) p q = along z zs (first z p.0) p.1 q
-
-  pub at_keys : (es : Met) (p : ℕ) (e : Entry ℕ) → at es p ≡ Some e → at (keys es) p ≡ Some e.key
-  at_keys [] p e h = absurd (some_none (sym h))
-  at_keys (d ∷ ds) zero e h = ap (λ (r : Entry ℕ). Some r.key) (some_injective h)
-  at_keys (d ∷ ds) (suc p) e h = at_keys ds p e h
 
   origin_push : (es : Met) (d : Entry ℕ) (p : ℕ) (e : Entry ℕ) → Origin c es p e → Origin c (push es d) p e
   origin_push es d p e (inl h) = inl h

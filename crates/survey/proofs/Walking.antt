@@ -1,12 +1,13 @@
 -- The walk through a cell: the codes met are reachable, and at its end they are all. Assumes nothing.
-use Rattle.std.proofs.Common.{◌≡◌, ℕ, zero, suc, ◌+◌, ◌<◌, ◌≤◌, List, [], ◌∷◌, length, take, Some, None, Option, sym, refl, ap, ◌∙◌, subst, inl, inr, arith}
+use Rattle.std.proofs.Common.{◌≡◌, ℕ, zero, suc, ◌+◌, ◌-◌, ◌<◌, ◌≤◌, List, [], ◌∷◌, length, take, Some, None, Option, sym, refl, ap, ◌∙◌, subst, inl, inr, arith}
 use Rattle.std.proofs.lemmas.Bool.{cases_lt, cases_eq}
 use Rattle.std.proofs.lemmas.List.{length-map, length-take-le}
 use Rattle.model.specs.Cells.{CellMeaning, In, at}
 use Rattle.model.specs.Entries.{Entry}
 use Rattle.levels.specs.Law.{Distinct}
-use Rattle.levels.proofs.Lists.{some_injective, some_none, pigeons, at_below, below_at}
+use Rattle.levels.proofs.Lists.{some_injective, pigeons, at_below, below_at}
 use Rattle.store.specs.Entries.{keys}
+use Rattle.store.proofs.Walks.{place_in}
 use Rattle.survey.specs.Order.{Met, gather, visit, walked}
 use Rattle.survey.specs.Reach.{Reachable, More, Sound}
 use Rattle.survey.proofs.Meeting.{Begins, begins_itself, begins_trans, begins_long, begins_at, begins_in, gather_begins, gather_in, reachable_start, reachable_next, reachable_all, sound_none, sound_gather, at_keys}
@@ -16,11 +17,6 @@ at_past [] i h = refl
 at_past (x ∷ xs) zero h = absurd (omega arith)
 at_past (x ∷ xs) (suc i) h = at_past xs i (omega arith)
 
-in_at : {A : Type 0} (xs : List A) (p : ℕ) (x : A) → at xs p ≡ Some x → In x xs
-in_at [] p x h = absurd (some_none (sym h))
-in_at (y ∷ ys) zero x h = inl (sym (some_injective h))
-in_at (y ∷ ys) (suc p) x h = inr (in_at ys p x h)
-
 -- a key stands at a place
 pub key_at : (es : Met) (x : ℕ) → In x (keys es) → (p : ℕ) × (e : Entry ℕ) × (at es p ≡ Some e) × (x ≡ e.key)
 key_at [] x h = absurd h
@@ -28,9 +24,7 @@ key_at (e ∷ es) x (inl q) = (0, e, refl, q)
 key_at (e ∷ es) x (inr h) = let r = key_at es x h in (suc r.0, r.1, r.2, r.3)
 
 over : (a b : ℕ) → a ≤ b → (k : ℕ) × (b ≡ k + a)
-over zero b l = (b, omega arith)
-over (suc a) zero l = absurd (omega arith)
-over (suc a) (suc b) l = let q = over a b (omega arith) in let e = q.1 in (q.0, omega arith)
+over a b l = (b - a, omega arith)
 
 module _ (c : CellMeaning) where
   pub visit_is : (i : ℕ) (es : Met) (e : Entry ℕ) → at es i ≡ Some e → visit c i es (at es i) ≡ gather (λ _. i) (c.nexts e.key) es
@@ -68,8 +62,8 @@ module _ (c : CellMeaning) where
   sound_visit i es None e s = s
   sound_visit i es (Some d) e s =
       sound_gather c (λ _. i) (c.nexts d.key) es s
-      (λ y h. reachable_next c d.key y (s.reached d.key (in_at (keys es) i d.key (at_keys c es i d e))) h)
-      (λ y ds h b. inr (let l = below_at es i d e in let m = begins_long es ds b in omega arith, d.key, at_keys c ds i d (begins_at es ds i d b e), h))
+      (λ y h. reachable_next c d.key y (s.reached d.key (place_in d.key (keys es) i (at_keys es i d e))) h)
+      (λ y ds h b. inr (let l = below_at es i d e in let m = begins_long es ds b in omega arith, d.key, at_keys ds i d (begins_at es ds i d b e), h))
 
   -- the codes met are different and reachable, and each has its origin
   pub walked_sound : (i : ℕ) → Sound c (walked c i)

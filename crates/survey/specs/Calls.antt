@@ -1,12 +1,11 @@
 -- What the survey answers, and the table after it. Assumes nothing.
-use Rattle.std.specs.Prelude.{◌≡◌, ℕ, ◌<◌, ◌≤◌, Bool, true, false, List, length, take, drop, Ok, Err, Result, slice_index_or}
+use Rattle.std.specs.Prelude.{◌≡◌, ℕ, ◌<◌, ◌≤◌, Bool, true, false, List, length, take, drop, Some, None, Option, Ok, Err, Result, slice_index_or}
 use Rattle.model.specs.Cells.{CellMeaning, In}
 use Rattle.model.specs.Refusals.{reply}
 use Rattle.model.specs.declared.refusal.Refusal.{Refusal}
 use Rattle.store.specs.declared.record.Record.{Record}
 use Rattle.store.specs.Entries.{entries, keys}
-use Rattle.survey.specs.declared.outcome.Outcome.{Outcome}
-use Rattle.survey.specs.declared.outcome.Outcome.TheVariants.{Whole, Full}
+use Rattle.survey.specs.declared.call.Reached.{Reached}
 use Rattle.survey.specs.Order.{walked}
 use Rattle.survey.specs.Reach.{Reachable, Shows, More, Sound, Levelled}
 
@@ -41,7 +40,7 @@ pub record Filled (c : CellMeaning) (xs ys : List (Record ℕ)) : Type 0 where
   pub more : More c (length xs)
 
 -- the answer, for a table xs that is left as ys
-abbrev pub SurveyedSo : CellMeaning → List (Record ℕ) → List (Record ℕ) → Result Outcome Refusal → Type 0
-SurveyedSo c xs ys (Ok (Whole codes labels)) = (length xs ≤ 1000000) × Surveyed c xs ys codes labels
-SurveyedSo c xs ys (Ok Full) = (length xs ≤ 1000000) × Filled c xs ys
+abbrev pub SurveyedSo : CellMeaning → List (Record ℕ) → List (Record ℕ) → Result (Option Reached) Refusal → Type 0
+SurveyedSo c xs ys (Ok (Some s)) = (length xs ≤ 1000000) × Surveyed c xs ys s.codes s.labels
+SurveyedSo c xs ys (Ok None) = (length xs ≤ 1000000) × Filled c xs ys
 SurveyedSo c xs ys (Err e) = (1000000 < length xs) × (reply e ≡ (6, 17, length xs)) × (ys ≡ xs)

@@ -3,10 +3,8 @@
 
 mod call;
 mod mark;
-mod outcome;
 #[cfg(test)]
 mod tests;
 mod walk;
 
-pub use call::survey;
-pub use outcome::Outcome;
+pub use call::{Reached, survey};

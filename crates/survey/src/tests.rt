@@ -1,5 +1,5 @@
 // Examples and limits of the survey, on step tables.
-use crate::{Outcome, survey};
+use crate::{Reached, survey};
 use model::{Cause, Layer, Refusal};
 use std::test::Fail;
 use steps::{Arc, Row, StepTable};
@@ -37,18 +37,18 @@ const ARCS: [Arc; 5] = [
     Arc { from: 3, to: 0 },
 ];
 
-fn surveyed(table: &mut [Record<u64>]) -> Result<Outcome, Refusal> {
+fn surveyed(table: &mut [Record<u64>]) -> Result<Option<Reached>, Refusal> {
     let mut cell = StepTable::new();
     cell.fill(&ROWS, &ARCS)?;
     survey(&cell, table)
 }
 
-fn whole() -> Result<Outcome, Refusal> {
+fn whole() -> Result<Option<Reached>, Refusal> {
     let mut labels = [false; 64];
     labels[0] = true;
     labels[3] = true;
     labels[63] = true;
-    Ok(Outcome::Whole { codes: 3, labels })
+    Ok(Some(Reached { codes: 3, labels }))
 }
 
 #[test]
@@ -65,9 +65,9 @@ fn finds_what_runs_come_to(rt: HostRuntime) {
 fn is_full_with_a_place_too_few(rt: HostRuntime) {
     assert_eq!(rt; surveyed(&mut [Record::new(0u64); 3]), whole());
     let mut table = [Record::new(77u64); 2];
-    assert_eq!(rt; surveyed(&mut table), Ok(Outcome::Full));
+    assert_eq!(rt; surveyed(&mut table), Ok(None));
     assert_eq!(rt; (table[0].key, table[1].key), (0, 2));
-    assert_eq!(rt; surveyed(&mut []), Ok(Outcome::Full));
+    assert_eq!(rt; surveyed(&mut []), Ok(None));
 }
 
 #[test]
@@ -75,18 +75,14 @@ fn without_starts_nothing_is_found(rt: HostRuntime) {
     let labels = [false; 64];
     assert_eq!(rt;
         survey(&StepTable::new(), &mut []),
-        Ok(Outcome::Whole { codes: 0, labels })
+        Ok(Some(Reached { codes: 0, labels }))
     );
 }
 
 #[test]
 fn tables_have_at_most_a_million_places(rt: HostRuntime) -> Result<(), Fail> {
     let mut table = vec![in rt.alloc(); Record::new(77u64); 1_000_001]?;
-    let large = Refusal {
-        layer: Layer::Check,
-        cause: Cause::Large,
-        place: 1_000_001,
-    };
+    let large = Refusal::new(Layer::Check, Cause::Large, 1_000_001);
     assert_eq!(rt; surveyed(&mut table), Err(large));
     let _ = table.pop();
     assert_eq!(rt; surveyed(&mut table), whole());

@@ -2,7 +2,6 @@ pub mod Closed
 pub mod Tests
 pub mod Shared
 pub mod Derived
-pub mod Lists
 pub mod Going
 pub mod Stands
 pub mod Parts

@@ -1,17 +1,18 @@
 -- What has been read, put together from its parts. Assumes nothing.
-use Rattle.std.proofs.Common.{◌≡◌, ℕ, suc, ◌+◌, ◌<◌, ◌≤◌, false, List, [], ◌∷◌, ◌++◌, length, IsErrAnd, Some, Ok, Err, vec_items, vec_len, Result, sym, refl, ap, ◌∙◌, subst, append_assoc, arith, MatchResult}
+use Rattle.std.proofs.Common.{◌≡◌, ℕ, suc, ◌+◌, ◌-◌, ◌<◌, ◌≤◌, false, List, [], ◌∷◌, ◌++◌, length, IsErrAnd, Some, Ok, Err, vec_items, vec_len, Result, sym, refl, ap, ◌∙◌, subst, append_assoc, arith, MatchResult}
 use Rattle.model.specs.Cells.{at}
 use Rattle.model.specs.declared.refusal.Cause.{Cause}
 use Rattle.text.specs.declared.expressions.Expressions.{Expressions}
 use Rattle.text.specs.declared.node.ArithNode.{ArithNode}
 use Rattle.text.specs.declared.reading.Fault.{Fault}
+use Rattle.text.specs.declared.reading.Limits.{Limits}
 use Rattle.text.specs.declared.word.Word.{Word}
 use Rattle.text.specs.declared.word.Scope.{Scope}
-use Rattle.text.specs.Expressions.{Arith, number, current, initial}
+use Rattle.text.specs.Expressions.{Arith, current, initial}
 use Rattle.text.specs.Nodes.{nodes, ArithAt}
 use Rattle.text.specs.Table.{Item, operand, more}
 use Rattle.text.specs.Derivations.{Sums, one, onto, Sum}
-use Rattle.text.specs.Reading.{reads, Here, Goes, Stops, place_of, cause_of, FaultAt}
+use Rattle.text.specs.Reading.{reads, Here, Goes, Stops, place_of, cause_of, FaultAt, Deeper}
 use Rattle.text.specs.Pools.{SameNodes, ArithPushed}
 use Rattle.model.specs.declared.refusal.Cause.TheVariants.{Many}
 use Rattle.text.specs.Outcomes.{ArithRead, Stopped, Leafed}
@@ -38,6 +39,25 @@ broken (Err y) P Q e h q = subst Q (sym h) q
 pub stops_by : {js : List Item} {s : Scope} {left end n : ℕ} {ws : List Word} (f : Fault) (c : Cause) (v : List Word) → f.cause ≡ c → f.place ≡ place_of end v → Stops n s left js ws c v → Stopped js s left end n ws f
 stops_by {js} {s} {left} {end} {n} {ws} f c v e p g = record { words = v; place_is = p; stops = subst (λ x. Stops n s left js ws x v) (sym e) g }
 
+-- a fault at the first of the words
+pub stops_here : {js : List Item} {s : Scope} {left end n : ℕ} {w : Word} {ws : List Word} (f : Fault) (c : Cause) → f ≡ record { cause = c; place = w.place } → Stops n s left js (w ∷ ws) c (w ∷ ws) → Stopped js s left end n (w ∷ ws) f
+stops_here {w = w} {ws} f c e g = stops_by f c (w ∷ ws) (ap (λ x. x.cause) e) (ap (λ x. x.place) e) g
+
+limits : Scope → ℕ → ℕ → Limits
+limits s e l = record { scope = s; end = e; left = l }
+
+-- the limits inside what a word opens
+abbrev pub inside : Limits → Limits
+inside x = record { scope = x.scope; end = x.end; left = x.left - 1 }
+
+pub inside_is : {x y : Limits} → Deeper x y → y ≡ inside x
+unfolding limits
+inside_is {x} {y} d = let l : y.left ≡ x.left - 1 = omega (arith, d.left) in ap (λ s. limits s y.end y.left) d.scope ∙ ap (λ e. limits x.scope e y.left) d.end ∙ ap (limits x.scope x.end) l
+
+-- what is so with the limits inside
+pub from_inside : {x y : Limits} → Deeper x y → (P : Limits → Type 0) → P y → P (inside x)
+from_inside d P h = subst P (inside_is d) h
+
 -- a leaf has been read
 pub leaf_read : (node : ArithNode) (a : Arith) (s : Scope) (left : ℕ) (w : Word) (ws : List Word) (x y : Expressions) (i : ℕ) → Sums one (w ∷ ws) a ws → nodes a ≡ 1 → ((ns : List ArithNode) (k : ℕ) → at ns k ≡ Some node → ArithAt ns k a) → Leafed node x y i → Goes x.counted s left (operand ∷ []) (w ∷ ws) ws (suc x.counted) → ArithRead (operand ∷ []) (Sums one) s left (w ∷ ws) x y i ws
 leaf_read node a s left w ws x y i d n st l g = record {
@@ -54,14 +74,7 @@ leaf_read node a s left w ws x y i d n st l g = record {
   test_count = l.test_count;
 }
 
--- the register of a word, as a tree
-abbrev pub named_tree : ArithNode → Arith
-named_tree (NumberNode n) = number n
-named_tree (CurrentNode r) = current (register_index r)
-named_tree (InitialNode r) = initial (register_index r)
-named_tree (PlusNode l r) = number 0
-named_tree (MinusNode l r) = number 0
-
+-- the line of the table that takes a register's word
 pub named_found : (w : Word) (node : ArithNode) → Named w.token node → (p : ℕ) → find (rules_of operand) (record { token = w.token; place = p }) ≡ takes operand_register []
 named_found w (NumberNode n) h p = absurd h
 named_found w (CurrentNode r) h p = ap (λ t. find (rules_of operand) (record { token = t; place = p })) h

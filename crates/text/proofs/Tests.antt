@@ -1,10 +1,18 @@
 -- What tests of words tell. Assumes nothing.
 use Rattle.std.proofs.Common.{◌≡◌, ℕ, ◌≤◌, Bool, true, false, eqb, ◌⊎◌, List, [], ◌∷◌, get_or, sym, refl, ap, ◌∙◌, inl, inr, arith, lit≤, eq-eqb, eqb-true}
 use borrow.Author.Tests.{clash}
+use denote.Enum.Bare.{sameb}
+use denote.Enum.Declared.{tag_of}
 use Rattle.text.specs.declared.word.Register.{Register}
 use Rattle.text.specs.declared.word.Token.{Token}
 use Rattle.text.specs.declared.word.Token.TheVariants.{Number, Current, Initial, True, And, Or, Nand, Reg, Sense, If, Else, While, Break, Empty, Rest, Name, Semicolon, OpenParen, CloseParen, OpenBrace, CloseBrace, OpenBracket, CloseBracket, Less, AtMost, Equal, Set, Plus, Minus, Colon, Question, Comma, Bar, Star, Stray}
-use Rattle.text.specs.Words.{kind}
+use Rattle.text.specs.declared.word.Kind.{Kind}
+use Rattle.text.specs.declared.word.Kind.TheVariants.{Number as NumberKind, Letter as LetterKind, True as TrueKind, And as AndKind, Or as OrKind, Nand as NandKind, Reg as RegKind, Sense as SenseKind, If as IfKind, Else as ElseKind, While as WhileKind, Break as BreakKind, Empty as EmptyKind, Rest as RestKind, Name as NameKind, Semicolon as SemicolonKind, OpenParen as OpenParenKind, CloseParen as CloseParenKind, OpenBrace as OpenBraceKind, CloseBrace as CloseBraceKind, OpenBracket as OpenBracketKind, CloseBracket as CloseBracketKind, Less as LessKind, AtMost as AtMostKind, Equal as EqualKind, Set as SetKind, Plus as PlusKind, Minus as MinusKind, Colon as ColonKind, Question as QuestionKind, Comma as CommaKind, Bar as BarKind, Star as StarKind, Stray as StrayKind}
+use Rattle.text.specs.contracts.word.Kind.{the_type}
+use Rattle.text.specs.declared.word.Word.{Word}
+use Rattle.text.specs.Derivations.{Free}
+use Rattle.text.specs.Reading.{Unlike}
+use Rattle.text.specs.Words.{kind, kind_number}
 
 -- the tokens in the order of their kinds
 abbrev tokens : List Token
@@ -109,3 +117,48 @@ same_kind t u e = eq-eqb (kind t) (kind u) (ap kind e)
 -- two tokens of different kinds differ
 pub kinds_differ : (t u : Token) → eqb (kind t) (kind u) ≡ false → t ≡ u → ⊥
 kinds_differ t u h e = clash (sym h ∙ same_kind t u e)
+
+-- words that begin with no sign of a kind are free of that sign
+pub free_of : (t : Token) (ws : List Word) → Unlike t ws → Free (t ∷ []) ws
+free_of t [] u = tt
+free_of t (w ∷ ws) u = (kinds_differ w.token t u, tt)
+
+-- two kinds are the same where their numbers are
+number_is_tag : (k : Kind) → kind_number k ≡ tag_of the_type k
+number_is_tag NumberKind = refl
+number_is_tag LetterKind = refl
+number_is_tag TrueKind = refl
+number_is_tag AndKind = refl
+number_is_tag OrKind = refl
+number_is_tag NandKind = refl
+number_is_tag RegKind = refl
+number_is_tag SenseKind = refl
+number_is_tag IfKind = refl
+number_is_tag ElseKind = refl
+number_is_tag WhileKind = refl
+number_is_tag BreakKind = refl
+number_is_tag EmptyKind = refl
+number_is_tag RestKind = refl
+number_is_tag NameKind = refl
+number_is_tag SemicolonKind = refl
+number_is_tag OpenParenKind = refl
+number_is_tag CloseParenKind = refl
+number_is_tag OpenBraceKind = refl
+number_is_tag CloseBraceKind = refl
+number_is_tag OpenBracketKind = refl
+number_is_tag CloseBracketKind = refl
+number_is_tag LessKind = refl
+number_is_tag AtMostKind = refl
+number_is_tag EqualKind = refl
+number_is_tag SetKind = refl
+number_is_tag PlusKind = refl
+number_is_tag MinusKind = refl
+number_is_tag ColonKind = refl
+number_is_tag QuestionKind = refl
+number_is_tag CommaKind = refl
+number_is_tag BarKind = refl
+number_is_tag StarKind = refl
+number_is_tag StrayKind = refl
+
+pub same_kinds : (a b : Kind) (t u : Token) (r : Bool) → r ≡ sameb the_type a b → kind_number a ≡ kind t → kind_number b ≡ kind u → r ≡ eqb (kind t) (kind u)
+same_kinds a b t u r e p q = e ∙ ap (λ n. eqb n (tag_of the_type b)) (sym (number_is_tag a) ∙ p) ∙ ap (eqb (kind t)) (sym (number_is_tag b) ∙ q)

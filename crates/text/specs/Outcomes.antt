@@ -1,10 +1,12 @@
 -- What the readers of expressions answer. Assumes nothing.
-use Rattle.std.specs.Prelude.{◌≡◌, ℕ, suc, ◌+◌, ◌≤◌, List, [], ◌∷◌, ◌++◌, vec_items, vec_len}
+use Rattle.std.specs.Prelude.{◌≡◌, ℕ, suc, ◌+◌, ◌≤◌, List, [], ◌∷◌, ◌++◌, Result, MatchResult, vec_items, vec_len}
 use Rattle.model.specs.declared.refusal.Cause.TheVariants.{Many}
 use Rattle.text.specs.declared.expressions.Expressions.{Expressions}
 use Rattle.text.specs.declared.node.ArithNode.{ArithNode}
 use Rattle.text.specs.declared.node.TestNode.{TestNode}
 use Rattle.text.specs.declared.reading.Fault.{Fault}
+use Rattle.text.specs.declared.reading.Limits.{Limits}
+use Rattle.text.specs.declared.reading.Read.{Read}
 use Rattle.text.specs.declared.word.Word.{Word}
 use Rattle.text.specs.declared.word.Scope.{Scope}
 use Rattle.text.specs.Expressions.{Arith, Test}
@@ -52,6 +54,14 @@ pub record Stopped (js : List Item) (s : Scope) (left end n : ℕ) (ws : List Wo
   pub words : List Word
   pub place_is : f.place ≡ place_of end words
   pub stops : Stops n s left js ws f.cause words
+
+-- what the reader of an arithmetic part answers
+abbrev pub ArithAnswer : List Item → (List Word → Arith → List Word → Type 0) → Limits → List Word → Expressions → Expressions → Result Read Fault → Type 0
+ArithAnswer js D l ws x y answer = MatchResult answer (λ r. ArithRead js D l.scope l.left ws x y r.index r.rest.now) (Stopped js l.scope l.left l.end x.counted ws)
+
+-- what the reader of a boolean part answers
+abbrev pub TestAnswer : List Item → (List Word → Test → List Word → Type 0) → Limits → List Word → Expressions → Expressions → Result Read Fault → Type 0
+TestAnswer js D l ws x y answer = MatchResult answer (λ r. TestRead js D l.scope l.left ws x y r.index r.rest.now) (Stopped js l.scope l.left l.end x.counted ws)
 
 -- a leaf has been added for a word that has been counted
 pub record Leafed (node : ArithNode) (x y : Expressions) (i : ℕ) : Type 0 where

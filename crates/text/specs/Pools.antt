@@ -1,5 +1,5 @@
 -- What counting a word and adding a node change in the room for expressions. Assumes nothing.
-use Rattle.std.specs.Prelude.{◌≡◌, ℕ, suc, ◌≤◌, Bool, true, false, [], ◌∷◌, ◌++◌, vec_items, vec_len}
+use Rattle.std.specs.Prelude.{◌≡◌, ℕ, suc, [], ◌∷◌, ◌++◌, vec_items, vec_len}
 use Rattle.text.specs.declared.expressions.Expressions.{Expressions}
 use Rattle.text.specs.declared.node.ArithNode.{ArithNode}
 use Rattle.text.specs.declared.node.TestNode.{TestNode}
@@ -11,10 +11,9 @@ pub record SameNodes (x y : Expressions) : Type 0 where
   pub arith_count : vec_len y.ariths ≡ vec_len x.ariths
   pub test_count : vec_len y.tests ≡ vec_len x.tests
 
--- one more word is counted, or 256 are and nothing changes
-abbrev pub Counted : Expressions → Expressions → Bool → Type 0
-Counted x y true = SameNodes x y × (y.counted ≡ suc x.counted)
-Counted x y false = (y ≡ x) × (256 ≤ x.counted)
+-- one more word is counted
+abbrev pub Counted : Expressions → Expressions → Type 0
+Counted x y = SameNodes x y × (y.counted ≡ suc x.counted)
 
 -- the node stands at the end of the arithmetic nodes, and the rest is as it was
 pub record ArithPushed (x y : Expressions) (node : ArithNode) (place : ℕ) : Type 0 where

@@ -1,13 +1,14 @@
 -- What a reading function owes to those that call it. Assumes nothing.
-use Rattle.std.specs.Prelude.{◌≡◌, ℕ, ◌+◌, true, false, cond, List, [], ◌∷◌, ◌++◌}
+use Rattle.std.specs.Prelude.{◌≡◌, ℕ, suc, ◌+◌, true, false, cond, List, [], ◌∷◌, ◌++◌}
 use Rattle.grammar.specs.Answers.{Answer, fault, reading}
 use Rattle.model.specs.declared.refusal.Cause.{Cause}
-use Rattle.model.specs.declared.refusal.Cause.TheVariants.{Byte, Unexpected}
+use Rattle.model.specs.declared.refusal.Cause.TheVariants.{Byte, Unexpected, Deep, Register}
 use Rattle.text.specs.declared.reading.Fault.{Fault}
+use Rattle.text.specs.declared.reading.Limits.{Limits}
 use Rattle.text.specs.declared.word.Token.{Token}
 use Rattle.text.specs.declared.word.Token.TheVariants.{Stray}
 use Rattle.text.specs.declared.word.Word.{Word}
-use Rattle.text.specs.Words.{at}
+use Rattle.text.specs.Words.{at, allowed}
 use Rattle.text.specs.declared.word.Scope.{Scope}
 use Rattle.text.specs.Table.{Item, table}
 use Rattle.text.specs.Charges.{Memo, causes, counting, open_in}
@@ -53,3 +54,21 @@ Skipped t ws rest = (w : Word) × (ws ≡ w ∷ rest) × (at t w ≡ true)
 abbrev pub Unlike : Token → List Word → Type 0
 Unlike t [] = Unit {0}
 Unlike t (w ∷ ws) = at t w ≡ false
+
+-- one less may be opened, and the rest is as it was
+pub record Deeper (x y : Limits) : Type 0 where
+  pub left : suc y.left ≡ x.left
+  pub scope : y.scope ≡ x.scope
+  pub end : y.end ≡ x.end
+
+-- the fault at a register's word that may not stand
+pub record NotAllowed (x : Limits) (w : Word) (f : Fault) : Type 0 where
+  pub why : allowed x.scope w.token ≡ false
+  pub cause_is : f.cause ≡ Register
+  pub place_is : f.place ≡ w.place
+
+-- the fault at a word that opens something where no more may be opened
+pub record TooDeep (x : Limits) (w : Word) (f : Fault) : Type 0 where
+  pub none_left : x.left ≡ 0
+  pub cause_is : f.cause ≡ Deep
+  pub place_is : f.place ≡ w.place

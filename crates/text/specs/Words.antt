@@ -4,6 +4,8 @@ use Rattle.text.specs.declared.word.Register.{Register}
 use Rattle.text.specs.declared.word.Register.TheVariants.{A as ra, B as rb, C as rc, D as rd, E as re, F as rf}
 use Rattle.text.specs.declared.word.Token.{Token}
 use Rattle.text.specs.declared.word.Token.TheVariants.{Number, Current, Initial, True, And, Or, Nand, Reg, Sense, If, Else, While, Break, Empty, Rest, Name, Semicolon, OpenParen, CloseParen, OpenBrace, CloseBrace, OpenBracket, CloseBracket, Less, AtMost, Equal, Set, Plus, Minus, Colon, Question, Comma, Bar, Star, Stray}
+use Rattle.text.specs.declared.word.Kind.{Kind}
+use Rattle.text.specs.declared.word.Kind.TheVariants.{Number as NumberKind, Letter as LetterKind, True as TrueKind, And as AndKind, Or as OrKind, Nand as NandKind, Reg as RegKind, Sense as SenseKind, If as IfKind, Else as ElseKind, While as WhileKind, Break as BreakKind, Empty as EmptyKind, Rest as RestKind, Name as NameKind, Semicolon as SemicolonKind, OpenParen as OpenParenKind, CloseParen as CloseParenKind, OpenBrace as OpenBraceKind, CloseBrace as CloseBraceKind, OpenBracket as OpenBracketKind, CloseBracket as CloseBracketKind, Less as LessKind, AtMost as AtMostKind, Equal as EqualKind, Set as SetKind, Plus as PlusKind, Minus as MinusKind, Colon as ColonKind, Question as QuestionKind, Comma as CommaKind, Bar as BarKind, Star as StarKind, Stray as StrayKind}
 use Rattle.text.specs.declared.word.Word.{Word}
 use Rattle.text.specs.declared.word.Scope.{Scope}
 use Rattle.text.specs.declared.word.Scope.TheVariants.{Every, Declared}
@@ -54,6 +56,43 @@ kind Comma = 30
 kind Bar = 31
 kind Star = 32
 kind Stray = 33
+
+-- the number of a kind
+abbrev pub kind_number : Kind → ℕ
+kind_number NumberKind = 0
+kind_number LetterKind = 1
+kind_number TrueKind = 2
+kind_number AndKind = 3
+kind_number OrKind = 4
+kind_number NandKind = 5
+kind_number RegKind = 6
+kind_number SenseKind = 7
+kind_number IfKind = 8
+kind_number ElseKind = 9
+kind_number WhileKind = 10
+kind_number BreakKind = 11
+kind_number EmptyKind = 12
+kind_number RestKind = 13
+kind_number NameKind = 14
+kind_number SemicolonKind = 15
+kind_number OpenParenKind = 16
+kind_number CloseParenKind = 17
+kind_number OpenBraceKind = 18
+kind_number CloseBraceKind = 19
+kind_number OpenBracketKind = 20
+kind_number CloseBracketKind = 21
+kind_number LessKind = 22
+kind_number AtMostKind = 23
+kind_number EqualKind = 24
+kind_number SetKind = 25
+kind_number PlusKind = 26
+kind_number MinusKind = 27
+kind_number ColonKind = 28
+kind_number QuestionKind = 29
+kind_number CommaKind = 30
+kind_number BarKind = 31
+kind_number StarKind = 32
+kind_number StrayKind = 33
 
 -- the value of a number, 0 of any other word
 abbrev pub amount : Token → ℕ

@@ -1,13 +1,14 @@
 // Reading arithmetic expressions: operands and groups, joined from the left.
-ghost use Rattle.std.specs.Prelude.{◌≡◌, [], ◌∷◌, MatchOption, MatchResult};
-ghost use Rattle.text.specs.Derivations.{Sums, one, Sum, Free};
+ghost use Rattle.std.specs.Prelude.{◌≡◌, [], ◌∷◌, MatchResult};
+ghost use Rattle.text.specs.Derivations.{Sums, one, Sum};
 ghost use Rattle.text.specs.Joins.{Named, join_token, join_node, Joined};
-ghost use Rattle.text.specs.Outcomes.{ArithRead, Stopped, Leafed, TooMany};
+ghost use Rattle.text.specs.Outcomes.{ArithAnswer, Stopped, Leafed, TooMany};
 ghost use Rattle.text.specs.Table.{operand as operand_item, more as more_item};
 
 use crate::expressions::Expressions;
 use crate::node::ArithNode;
-use crate::reading::{Fault, Limits, Read, first, skip, unexpected};
+use crate::operator::{Operator, operator_at};
+use crate::reading::{Fault, Limits, Read, next, skip, unexpected};
 use crate::word::{Token, Word};
 use model::Cause;
 
@@ -15,15 +16,10 @@ use model::Cause;
 pub const LARGEST_NUMBER: u16 = 1000;
 
 // The leaf of a number or a register, which is counted.
-fn leaf(node: ArithNode, place: usize, room: &mut Expressions) -> Result<usize, Fault>
-    ensures { MatchResult result (λ i. Leafed node room.old room.new i) (λ f. TooMany room.old place f) }
+fn leaf(node: ArithNode, word: Word, room: &mut Expressions) -> Result<usize, Fault>
+    ensures { MatchResult result (λ i. Leafed node room.old room.new i) (λ f. TooMany room.old word.place f) }
 {
-    if !room.count() {
-        return Err(Fault {
-            cause: Cause::Many,
-            place,
-        });
-    }
+    room.count(word)?;
     Ok(room.push_arith(node))
 }
 
@@ -33,19 +29,15 @@ fn number<'a>(
     word: Word,
     rest: &'a [Word],
     limits: Limits,
-    left: usize,
     room: &mut Expressions,
 ) -> Result<Read<'a>, Fault>
     requires { word.token ≡ Token.Number value }
-    ensures { MatchResult result (λ x. ArithRead (operand_item ∷ []) (Sums one) limits.scope left (word ∷ rest.now) room.old room.new x.index x.rest.now) (λ f. Stopped (operand_item ∷ []) limits.scope left limits.end room.old.counted (word ∷ rest.now) f) }
+    ensures { ArithAnswer (operand_item ∷ []) (Sums one) limits (word ∷ rest.now) room.old room.new result }
 {
     if value > LARGEST_NUMBER {
-        return Err(Fault {
-            cause: Cause::Number,
-            place: word.place,
-        });
+        return Err(word.fault(Cause::Number));
     }
-    let index = leaf(ArithNode::Number(value), word.place, room)?;
+    let index = leaf(ArithNode::Number(value), word, room)?;
     Ok(Read { index, rest })
 }
 
@@ -55,47 +47,30 @@ fn register<'a>(
     word: Word,
     rest: &'a [Word],
     limits: Limits,
-    left: usize,
     room: &mut Expressions,
 ) -> Result<Read<'a>, Fault>
     requires { Named word.token node }
-    ensures { MatchResult result (λ x. ArithRead (operand_item ∷ []) (Sums one) limits.scope left (word ∷ rest.now) room.old room.new x.index x.rest.now) (λ f. Stopped (operand_item ∷ []) limits.scope left limits.end room.old.counted (word ∷ rest.now) f) }
+    ensures { ArithAnswer (operand_item ∷ []) (Sums one) limits (word ∷ rest.now) room.old room.new result }
 {
-    if !limits.scope.allows(word.token) {
-        return Err(Fault {
-            cause: Cause::Register,
-            place: word.place,
-        });
-    }
-    let index = leaf(node, word.place, room)?;
+    limits.allows(word)?;
+    let index = leaf(node, word, room)?;
     Ok(Read { index, rest })
 }
 
-// A number, a register or a group.
+// A number, a register or a group. Groups, as those of tests and of sheets, are opened, read and closed in place: one function
+// would take the inner reader as a parameter and be longer.
 #[cycle(joined_operand_sum)]
-fn operand<'a>(
-    words: &'a [Word],
-    limits: Limits,
-    left: usize,
-    room: &mut Expressions,
-) -> Result<Read<'a>, Fault>
-    ensures { MatchResult result (λ x. ArithRead (operand_item ∷ []) (Sums one) limits.scope left words.now room.old room.new x.index x.rest.now) (λ f. Stopped (operand_item ∷ []) limits.scope left limits.end room.old.counted words.now f) }
+fn operand<'a>(words: &'a [Word], limits: Limits, room: &mut Expressions) -> Result<Read<'a>, Fault>
+    ensures { ArithAnswer (operand_item ∷ []) (Sums one) limits words.now room.old room.new result }
 {
-    let Some((word, rest)) = first(words) else {
-        return Err(unexpected(words, limits.end));
-    };
+    let (word, rest) = next(words, limits.end)?;
     match word.token {
-        Token::Number(value) => number(value, word, rest, limits, left, room),
-        Token::Current(name) => register(ArithNode::Current(name), word, rest, limits, left, room),
-        Token::Initial(name) => register(ArithNode::Initial(name), word, rest, limits, left, room),
+        Token::Number(value) => number(value, word, rest, limits, room),
+        Token::Current(name) => register(ArithNode::Current(name), word, rest, limits, room),
+        Token::Initial(name) => register(ArithNode::Initial(name), word, rest, limits, room),
         Token::OpenParen => {
-            if left == 0 {
-                return Err(Fault {
-                    cause: Cause::Deep,
-                    place: word.place,
-                });
-            }
-            let inner = sum(rest, limits, left - 1, room)?;
+            let inside = limits.deeper(word)?;
+            let inner = sum(rest, inside, room)?;
             let behind = skip(inner.rest, Token::CloseParen, limits.end)?;
             Ok(Read {
                 index: inner.index,
@@ -107,33 +82,36 @@ fn operand<'a>(
 }
 
 // The operators that join operands.
-#[derive(Clone, Copy)]
+#[derive(Clone, Copy, Debug, PartialEq, Eq)]
 pub enum Join {
     Plus,
     Minus,
 }
 
-// The operator that goes on with an expression, its word, and the words behind it.
-fn join_of(words: &[Word]) -> Option<(Join, Word, &[Word])>
-    ensures { MatchOption result (Free (Token.Plus ∷ Token.Minus ∷ []) words.now) (λ x. (words.now ≡ x.1 ∷ x.2.now) × (x.1.token ≡ join_token x.0)) }
-{
-    match first(words) {
-        Some((word, rest)) => match word.token {
-            Token::Plus => Some((Join::Plus, word, rest)),
-            Token::Minus => Some((Join::Minus, word, rest)),
-            _ => None,
-        },
-        None => None,
-    }
-}
+impl Operator for Join {
+    ghost use Rattle.text.specs.declared.word.Token.{Token};
 
-// The node of two operands that are joined.
-fn join_node(join: Join, left: usize, right: usize) -> ArithNode
-    ensures { result ≡ join_node join left right }
-{
-    match join {
-        Join::Plus => ArithNode::Plus(left, right),
-        Join::Minus => ArithNode::Minus(left, right),
+    type Node = ArithNode;
+
+    ghost signs = { Token.Plus ∷ Token.Minus ∷ [] };
+
+    ghost sign = { join_token };
+
+    ghost joins = { join_node };
+
+    fn of(token: Token) -> Option<Join> {
+        match token {
+            Token::Plus => Some(Join::Plus),
+            Token::Minus => Some(Join::Minus),
+            _ => None,
+        }
+    }
+
+    fn node(self, left: usize, right: usize) -> ArithNode {
+        match self {
+            Join::Plus => ArithNode::Plus(left, right),
+            Join::Minus => ArithNode::Minus(left, right),
+        }
     }
 }
 
@@ -145,39 +123,28 @@ fn joined<'a>(
     word: Word,
     rest: &'a [Word],
     limits: Limits,
-    left: usize,
     room: &mut Expressions,
 ) -> Result<Read<'a>, Fault>
     requires { word.token ≡ join_token join }
-    ensures { MatchResult result (λ x. Joined index join limits.scope left (word ∷ rest.now) room.old room.new x.index x.rest.now) (λ f. Stopped (more_item ∷ []) limits.scope left limits.end room.old.counted (word ∷ rest.now) f) }
+    ensures { MatchResult result (λ x. Joined index join limits.scope limits.left (word ∷ rest.now) room.old room.new x.index x.rest.now) (λ f. Stopped (more_item ∷ []) limits.scope limits.left limits.end room.old.counted (word ∷ rest.now) f) }
 {
-    if !room.count() {
-        return Err(Fault {
-            cause: Cause::Many,
-            place: word.place,
-        });
-    }
-    let right = operand(rest, limits, left, room)?;
-    let node = join_node(join, index, right.index);
+    room.count(word)?;
+    let right = operand(rest, limits, room)?;
+    let node = join.node(index, right.index);
     Ok(Read {
         index: room.push_arith(node),
         rest: right.rest,
     })
 }
 
-// An arithmetic expression, where so many more may be opened.
+// An arithmetic expression.
 #[cycle(joined_operand_sum)]
-pub fn sum<'a>(
-    words: &'a [Word],
-    limits: Limits,
-    left: usize,
-    room: &mut Expressions,
-) -> Result<Read<'a>, Fault>
-    ensures { MatchResult result (λ x. ArithRead (operand_item ∷ more_item ∷ []) Sum limits.scope left words.now room.old room.new x.index x.rest.now) (λ f. Stopped (operand_item ∷ more_item ∷ []) limits.scope left limits.end room.old.counted words.now f) }
+pub fn sum<'a>(words: &'a [Word], limits: Limits, room: &mut Expressions) -> Result<Read<'a>, Fault>
+    ensures { ArithAnswer (operand_item ∷ more_item ∷ []) Sum limits words.now room.old room.new result }
 {
-    let mut read = operand(words, limits, left, room)?;
-    while let Some((join, word, rest)) = join_of(read.rest) {
-        read = joined(read.index, join, word, rest, limits, left, room)?;
+    let mut read = operand(words, limits, room)?;
+    while let Some((join, word, rest)) = operator_at(read.rest) {
+        read = joined(read.index, join, word, rest, limits, room)?;
     }
     Ok(read)
 }

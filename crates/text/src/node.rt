@@ -1,8 +1,9 @@
 // Expressions as nodes in vectors: an operator names its operands by their places, which come before its own.
+// Reading may not allocate, so nodes lie in vectors that are reserved before, and not in boxes.
 use crate::word::Register;
 
 // A node of an arithmetic expression.
-#[derive(Clone, Copy)]
+#[derive(Clone, Copy, Debug, PartialEq, Eq)]
 pub enum ArithNode {
     Number(u16),
     // The register's value now.
@@ -14,7 +15,7 @@ pub enum ArithNode {
 }
 
 // A node of a boolean expression: comparisons name arithmetic nodes, the other operators name tests.
-#[derive(Clone, Copy)]
+#[derive(Clone, Copy, Debug, PartialEq, Eq)]
 pub enum TestNode {
     Always,
     Less(usize, usize),

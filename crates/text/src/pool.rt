@@ -1,9 +1,13 @@
 // Reserving the room for expressions, counting their words, and adding their nodes.
-ghost use Rattle.std.specs.Prelude.{◌≡◌, ◌+◌, ◌<◌, ◌≤◌, [], ◌∷◌, ◌++◌, length, IfOk, vec_len};
+ghost use Rattle.std.specs.Prelude.{◌≡◌, ◌+◌, ◌<◌, ◌≤◌, [], ◌∷◌, ◌++◌, length, IfOk, MatchResult, vec_len, vec_capacity};
+ghost use Rattle.text.specs.Outcomes.{TooMany};
 ghost use Rattle.text.specs.Pools.{Counted, ArithPushed, TestPushed};
 
 use crate::expressions::Expressions;
 use crate::node::{ArithNode, TestNode};
+use crate::reading::Fault;
+use crate::word::Word;
+use model::Cause;
 use std::alloc::{AllocError, Global};
 
 // The most words of arithmetic and boolean expressions in one text.
@@ -24,6 +28,7 @@ impl Expressions {
     }
 
     // The arithmetic nodes: never more than words are counted.
+    // Those who evaluate them ask that there are few; a struct round the slice would say no more, and be taken apart there.
     pub fn ariths(&self) -> &[ArithNode]
         ensures nodes { result.now ≡ self.now.ariths.items }
         ensures few { length result.now ≤ 256 }
@@ -39,14 +44,14 @@ impl Expressions {
     }
 
     // Counts one more word, unless it would be the 257th.
-    pub(crate) fn count(&mut self) -> bool
-        ensures { Counted self.old self.new result }
+    pub(crate) fn count(&mut self, word: Word) -> Result<(), Fault>
+        ensures { MatchResult result (λ _. Counted self.old self.new) (λ f. (self.new ≡ self.old) × TooMany self.old word.place f) }
     {
         if self.counted >= MOST_WORDS {
-            return false;
+            return Err(word.fault(Cause::Many));
         }
         self.counted += 1;
-        true
+        Ok(())
     }
 
     // The node of a word that has been counted; its place is told.
@@ -54,9 +59,7 @@ impl Expressions {
         requires { vec_len self.old.ariths + vec_len self.old.tests < self.old.counted }
         ensures { ArithPushed self.old self.new node result }
     {
-        let place = self.ariths.len();
-        self.ariths.push_reserved(node);
-        place
+        push(&mut self.ariths, node)
     }
 
     // The node of a word that has been counted; its place is told.
@@ -64,8 +67,19 @@ impl Expressions {
         requires { vec_len self.old.ariths + vec_len self.old.tests < self.old.counted }
         ensures { TestPushed self.old self.new node result }
     {
-        let place = self.tests.len();
-        self.tests.push_reserved(node);
-        place
+        push(&mut self.tests, node)
     }
+}
+
+// Puts a node at the end of nodes whose room is reserved; its place is told.
+pub(crate) fn push<N>(nodes: &mut Vec<N>, node: N) -> usize
+    requires { vec_len nodes.old < vec_capacity nodes.old }
+    ensures place { result ≡ vec_len nodes.old }
+    ensures items { nodes.new.items ≡ nodes.old.items ++ node ∷ [] }
+    ensures len { vec_len nodes.new ≡ vec_len nodes.old + 1 }
+    ensures capacity { vec_capacity nodes.new ≡ vec_capacity nodes.old }
+{
+    let place = nodes.len();
+    nodes.push_reserved(node);
+    place
 }

@@ -1,9 +1,12 @@
 // The words of programs, sheets and monitors.
 ghost use Rattle.std.specs.Prelude.{◌≡◌, ◌<◌};
-ghost use Rattle.text.specs.Words.{register_index, kind, allowed};
+ghost use Rattle.text.specs.Words.{register_index, kind, kind_number, allowed};
 
-// The six registers of a moment.
-#[derive(Clone, Copy)]
+use crate::reading::Fault;
+use model::Cause;
+
+// The six registers of a moment, in the order of their values there.
+#[derive(Clone, Copy, Debug, PartialEq, Eq)]
 pub enum Register {
     A,
     B,
@@ -14,7 +17,7 @@ pub enum Register {
 }
 
 // What a word is, whatever its place.
-#[derive(Clone, Copy)]
+#[derive(Clone, Copy, Debug, PartialEq, Eq)]
 pub enum Token {
     // A run of digits, by its value; every value above 1,000 is 1,001.
     Number(u16),
@@ -58,15 +61,57 @@ pub enum Token {
     Stray,
 }
 
+// What a word is but for its number or its register.
+// A kind is told of every word, of numbers and registers too, so that a sign is found whatever it holds.
+#[derive(Clone, Copy, Debug, PartialEq, Eq)]
+pub enum Kind {
+    Number,
+    // A register's letter, small or capital.
+    Letter,
+    True,
+    And,
+    Or,
+    Nand,
+    Reg,
+    Sense,
+    If,
+    Else,
+    While,
+    Break,
+    Empty,
+    Rest,
+    Name,
+    Semicolon,
+    OpenParen,
+    CloseParen,
+    OpenBrace,
+    CloseBrace,
+    OpenBracket,
+    CloseBracket,
+    Less,
+    AtMost,
+    Equal,
+    Set,
+    Plus,
+    Minus,
+    Colon,
+    Question,
+    Comma,
+    Bar,
+    Star,
+    Stray,
+}
+
 // A word of a text, with the place of its first byte.
-#[derive(Clone, Copy)]
+#[derive(Clone, Copy, Debug, PartialEq, Eq)]
 pub struct Word {
     pub token: Token,
     pub place: usize,
 }
 
 // Which registers may stand in an expression.
-#[derive(Clone, Copy)]
+// No Option of the declared ones: its None would read as no register, where every one may stand.
+#[derive(Clone, Copy, Debug, PartialEq, Eq)]
 pub enum Scope {
     // In sheets and monitors: every register, now and at the start.
     Every,
@@ -80,58 +125,62 @@ impl Register {
         ensures value { result ≡ register_index self }
         ensures small { result < 6 }
     {
-        match self {
-            Register::A => 0,
-            Register::B => 1,
-            Register::C => 2,
-            Register::D => 3,
-            Register::E => 4,
-            Register::F => 5,
-        }
+        self as usize
     }
 }
 
 impl Token {
     // The kind of the word: words of one kind are alike but for the number or the register.
-    pub fn kind(self) -> u8
-        ensures { result ≡ kind self }
+    pub fn kind(self) -> Kind
+        ensures { kind_number result ≡ kind self }
     {
         match self {
-            Token::Number(_) => 0,
-            Token::Current(_) => 1,
-            Token::Initial(_) => 1,
-            Token::True => 2,
-            Token::And => 3,
-            Token::Or => 4,
-            Token::Nand => 5,
-            Token::Reg => 6,
-            Token::Sense => 7,
-            Token::If => 8,
-            Token::Else => 9,
-            Token::While => 10,
-            Token::Break => 11,
-            Token::Empty => 12,
-            Token::Rest => 13,
-            Token::Name => 14,
-            Token::Semicolon => 15,
-            Token::OpenParen => 16,
-            Token::CloseParen => 17,
-            Token::OpenBrace => 18,
-            Token::CloseBrace => 19,
-            Token::OpenBracket => 20,
-            Token::CloseBracket => 21,
-            Token::Less => 22,
-            Token::AtMost => 23,
-            Token::Equal => 24,
-            Token::Set => 25,
-            Token::Plus => 26,
-            Token::Minus => 27,
-            Token::Colon => 28,
-            Token::Question => 29,
-            Token::Comma => 30,
-            Token::Bar => 31,
-            Token::Star => 32,
-            Token::Stray => 33,
+            Token::Number(_) => Kind::Number,
+            Token::Current(_) | Token::Initial(_) => Kind::Letter,
+            Token::True => Kind::True,
+            Token::And => Kind::And,
+            Token::Or => Kind::Or,
+            Token::Nand => Kind::Nand,
+            Token::Reg => Kind::Reg,
+            Token::Sense => Kind::Sense,
+            Token::If => Kind::If,
+            Token::Else => Kind::Else,
+            Token::While => Kind::While,
+            Token::Break => Kind::Break,
+            Token::Empty => Kind::Empty,
+            Token::Rest => Kind::Rest,
+            Token::Name => Kind::Name,
+            Token::Semicolon => Kind::Semicolon,
+            Token::OpenParen => Kind::OpenParen,
+            Token::CloseParen => Kind::CloseParen,
+            Token::OpenBrace => Kind::OpenBrace,
+            Token::CloseBrace => Kind::CloseBrace,
+            Token::OpenBracket => Kind::OpenBracket,
+            Token::CloseBracket => Kind::CloseBracket,
+            Token::Less => Kind::Less,
+            Token::AtMost => Kind::AtMost,
+            Token::Equal => Kind::Equal,
+            Token::Set => Kind::Set,
+            Token::Plus => Kind::Plus,
+            Token::Minus => Kind::Minus,
+            Token::Colon => Kind::Colon,
+            Token::Question => Kind::Question,
+            Token::Comma => Kind::Comma,
+            Token::Bar => Kind::Bar,
+            Token::Star => Kind::Star,
+            Token::Stray => Kind::Stray,
+        }
+    }
+}
+
+impl Word {
+    // What is wrong at this word.
+    pub fn fault(self, cause: Cause) -> Fault
+        ensures { result ≡ record { cause = cause; place = self.place } }
+    {
+        Fault {
+            cause,
+            place: self.place,
         }
     }
 }
@@ -143,10 +192,9 @@ impl Scope {
     {
         match self {
             Scope::Every => true,
-            Scope::Declared(declared) => match token {
-                Token::Current(register) => declared[register.index()],
-                _ => false,
-            },
+            Scope::Declared(declared) => {
+                matches!(token, Token::Current(register) if declared[register.index()])
+            }
         }
     }
 }

@@ -32,13 +32,7 @@ impl Range {
     pub fn keep(&self, value: i32) -> i16
         ensures { result ≡ kept self.now value }
     {
-        if value < self.low as i32 {
-            self.low
-        } else if value > self.high as i32 {
-            self.high
-        } else {
-            value as i16
-        }
+        value.clamp(i32::from(self.low), i32::from(self.high)) as i16
     }
 
     // How far the high end is above the low end.

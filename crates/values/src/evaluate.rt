@@ -31,30 +31,26 @@ fn reading(values: &[i16; 6], register: Register) -> i32
     i32::from(values[register.index()])
 }
 
-// An operand stands before its operator, and a number or a register is at most 65,536 in size. A tree at a place below 256
-// has at most 256 nodes, so that its value is at most 2^24 in size: in 32 bits no sum is ever cut off.
+// An operand stands before its operator and is looked for there alone. A number or a register is at most 65,536 in size, and a
+// tree at a place below 256 has at most 256 nodes, so that its value is at most 2^24 in size: in 32 bits no sum is ever cut off.
+// The 256 stands in both contracts: what stands before a node is a slice, and no `Expressions`, whose invariant says it.
 fn arith_value(nodes: &[ArithNode], index: usize, moment: &Moment) -> i32
     requires { length nodes.now ≤ 256 }
     ensures { ValueSo moment.now nodes.now index result }
 {
-    if index >= nodes.len() {
+    let Some(node) = nodes.get(index) else {
         return 0;
-    }
-    match nodes[index] {
+    };
+    let before = &nodes[..index];
+    match *node {
         ArithNode::Number(n) => i32::from(n),
         ArithNode::Current(register) => reading(&moment.values, register),
         ArithNode::Initial(register) => reading(&moment.starts, register),
         ArithNode::Plus(a, b) => {
-            if a >= index || b >= index {
-                return 0;
-            }
-            arith_value(nodes, a, moment).saturating_add(arith_value(nodes, b, moment))
+            arith_value(before, a, moment).saturating_add(arith_value(before, b, moment))
         }
         ArithNode::Minus(a, b) => {
-            if a >= index || b >= index {
-                return 0;
-            }
-            arith_value(nodes, a, moment).saturating_sub(arith_value(nodes, b, moment))
+            arith_value(before, a, moment).saturating_sub(arith_value(before, b, moment))
         }
     }
 }
@@ -64,31 +60,23 @@ fn test_holds(ariths: &[ArithNode], tests: &[TestNode], index: usize, moment: &M
     requires { length ariths.now ≤ 256 }
     ensures { HoldsSo moment.now ariths.now tests.now index result }
 {
-    if index >= tests.len() {
+    let Some(node) = tests.get(index) else {
         return false;
-    }
-    match tests[index] {
+    };
+    let before = &tests[..index];
+    match *node {
         TestNode::Always => true,
         TestNode::Less(a, b) => arith_value(ariths, a, moment) < arith_value(ariths, b, moment),
         TestNode::AtMost(a, b) => arith_value(ariths, a, moment) <= arith_value(ariths, b, moment),
         TestNode::Equal(a, b) => arith_value(ariths, a, moment) == arith_value(ariths, b, moment),
         TestNode::Both(a, b) => {
-            if a >= index || b >= index {
-                return false;
-            }
-            test_holds(ariths, tests, a, moment) & test_holds(ariths, tests, b, moment)
+            test_holds(ariths, before, a, moment) & test_holds(ariths, before, b, moment)
         }
         TestNode::Either(a, b) => {
-            if a >= index || b >= index {
-                return false;
-            }
-            test_holds(ariths, tests, a, moment) | test_holds(ariths, tests, b, moment)
+            test_holds(ariths, before, a, moment) | test_holds(ariths, before, b, moment)
         }
         TestNode::NotBoth(a, b) => {
-            if a >= index || b >= index {
-                return false;
-            }
-            !(test_holds(ariths, tests, a, moment) & test_holds(ariths, tests, b, moment))
+            !(test_holds(ariths, before, a, moment) & test_holds(ariths, before, b, moment))
         }
     }
 }

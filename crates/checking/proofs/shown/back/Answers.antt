@@ -1,4 +1,4 @@
-use Rattle.std.proofs.Common.{◌≡◌, ◌+◌, ◌-◌, sym, ap, ◌∙◌, arith}
+use Rattle.std.proofs.Common.{◌+◌, ◌-◌, sym, ap, ◌∙◌}
 use Rattle.checking.specs.Showing.{back_at, whole}
 use Rattle.checking.proofs.Trails.{back_more}
 use Rattle.checking.proofs.shown.back.Goals as goal
@@ -8,8 +8,3 @@ loop-step-preserved g c =
     c.loop-step.invariant
     ∙ back_more (whole c.args.table.now) c.args.steps c.loop-step._step c.loop-step.at c.loop-step-test.true
     ∙ ap (back_at (whole c.args.table.now) (c.args.steps - (c.loop-step._step + 1))) (sym c.from-at.ensures)
-
-pub returns : goal.returns
-returns g c =
-    let done : c.args.steps - c.loop-step._step ≡ 0 = omega arith in
-    sym (c.loop-step.invariant ∙ ap (λ k. back_at (whole c.args.table.now) k c.loop-step.at) done)

@@ -1,17 +1,15 @@
-use Rattle.std.proofs.Common.{◌+◌, ◌*◌, ◌≤◌, drop, arith}
-use Rattle.traces.specs.Codes.{settings}
-use Rattle.machine.proofs.Digits.{settings_pos, settings_more, settings_room, settings_all}
+-- The product of the numbers of starts.
+use Rattle.std.proofs.Common.{rules, tests, ◌*◌, ◌∙◌}
+use Rattle.std.proofs.lemmas.Iterator.{YieldsList-from_slice, YieldsList-from_map}
+use Rattle.std.proofs.lemmas.Iterator.Adapters.{total_from_yields_List}
+use Rattle.machine.proofs.Digits.{choices, choices_all, choices_fit}
 use Rattle.machine.proofs.codes.count.Goals as goal
 
-pub overflow_mul-total : goal.overflow_mul-total
-overflow_mul-total c =
-    let m = settings_more c.args.ranges.now c.loop-range.range-index c.range-item.result c.loop-range.total c.starts-total.result (settings c.args.ranges.now) (omega arith) c.loop-range.invariant c.starts-total.ensures in
-    let r = settings_room (c.loop-range.total * c.starts-total.result) (settings (drop (c.loop-range.range-index + 1) c.args.ranges.now)) (settings c.args.ranges.now) m (settings_pos (drop (c.loop-range.range-index + 1) c.args.ranges.now)) in
-    let p : settings c.args.ranges.now ≤ 65536 = c.requires in
-    omega arith
-
-pub loop-range-preserved : goal.loop-range-preserved
-loop-range-preserved c = settings_more c.args.ranges.now c.loop-range.range-index c.range-item.result c.loop-range.total c.starts-total.result (settings c.args.ranges.now) (omega arith) c.loop-range.invariant c.starts-total.ensures
+pub product-requires-clause-fits : goal.product-requires-clause-fits
+product-requires-clause-fits c =
+    choices_fit c.map.result c.args.ranges.now (YieldsList-from_map _ choices (YieldsList-from_slice c.args.ranges.now cc) c.map.ensures.closure (λ x r q k. search (rules, tests))) c.requires
 
 pub returns : goal.returns
-returns c = settings_all c.args.ranges.now c.loop-range.range-index c.loop-range.total (settings c.args.ranges.now) (omega arith) c.loop-range.invariant
+returns c =
+    let rs = c.args.ranges.now in
+    total_from_yields_List (λ a x. a * x) 1 c.product.result c.product.ensures.ran (YieldsList-from_map _ choices (YieldsList-from_slice rs cc) c.map.ensures.closure (λ x r q k. search (rules, tests))) ∙ choices_all rs

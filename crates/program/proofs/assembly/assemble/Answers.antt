@@ -1,31 +1,15 @@
-use Rattle.std.proofs.Common.{None, vec_items, sym, ◌∙◌, subst, arith}
+use Rattle.std.proofs.Common.{None, vec_items, sym, subst, arith}
 use Rattle.text.proofs.Stands.{vec_long}
 use Rattle.traces.proofs.Links.{drafts}
 use Rattle.program.specs.Outcomes.{DraftsFor}
 use Rattle.program.proofs.Linking.{as_long}
-use Rattle.program.proofs.Wholes.{no_items, sound_of}
+use Rattle.program.proofs.Wholes.{sound_of}
 use Rattle.program.proofs.assembly.assemble.Goals as goal
-
-pub link-requires : goal.link-requires
-link-requires c =
-    let b = c.args.board in
-    let p = c.requires.1.0 in
-    let ns = vec_items b.expressions.ariths in
-    let ts = vec_items b.expressions.tests in
-    let k = vec_long b.drafts in
-    let f = b.few in
-    let l = c.as_slice.ensures.len in (
-      (ns, ts, p.0, subst (λ ds. DraftsFor ns ts ds (drafts p.0 0 None)) (sym c.as_slice.ensures.value) p.1),
-      (omega arith, (c.requires.1.1.0, no_items (vec_items c.args.statements) (sym (vec_long c.args.statements) ∙ c.requires.1.1.1))),
-    )
-
-pub full-requires : goal.full-requires
-full-requires c = c.requires.0.six
 
 pub invariant_of-result : goal.invariant_of-result
 invariant_of-result c =
     let b = c.args.board in
-    let p = c.requires.1.0 in
+    let p = c.requires.0 in
     let ns = vec_items b.expressions.ariths in
     let ts = vec_items b.expressions.tests in
     let s = subst (λ ds. DraftsFor ns ts ds (drafts p.0 0 None)) (sym c.as_slice.ensures.value) p.1 in
@@ -34,16 +18,6 @@ invariant_of-result c =
     let k = vec_long b.drafts in
     let f = b.few in
     record {
-      is = sound_of c.args.header.now c.full.result _ p.0 c.requires.0 c.full.ensures l.0 (omega arith);
+      is = sound_of c.args.header.now c.full.result _ p.0 c.full.ensures l.0 (omega arith);
       whole = l.1;
-    }
-
-pub returns : goal.returns
-returns c =
-    let b = c.args.board in
-    let ns = vec_items b.expressions.ariths in
-    let ts = vec_items b.expressions.tests in
-    record {
-      ranges = c.full.ensures;
-      linked = λ body s. (c.link.ensures ns ts body (subst (λ ds. DraftsFor ns ts ds (drafts body 0 None)) (sym c.as_slice.ensures.value) s)).0;
     }

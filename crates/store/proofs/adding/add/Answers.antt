@@ -5,9 +5,8 @@ use Rattle.store.proofs.adding.add.Goals as goal
 
 pub returns : goal.returns
 returns g c =
-    let xs = c.args.table.now in
     let e = c.enter.ensures in (
       c.in_default.ensures,
-      grown g.K.Key.kind xs _ c.enter.new.table c.args.stored e.0 _ (omega arith) e.1 c.put.ensures e.2 (omega arith),
-      indexed g.K.Key.kind xs _ c.enter.new.table c.args.stored e.0 _ (omega arith) e.1 c.put.ensures e.2,
+      grown g.K.Key.kind _ _ _ _ e.0 _ (omega arith) e.1 c.put.ensures e.2 (omega arith),
+      indexed g.K.Key.kind _ _ _ _ e.0 _ (omega arith) e.1 c.put.ensures e.2,
     )

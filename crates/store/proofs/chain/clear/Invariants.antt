@@ -3,5 +3,5 @@ use Rattle.std.proofs.Common.{◌≡◌}
 use Rattle.store.specs.Steps.{cleared}
 use Rattle.store.proofs.chain.clear.Given as goal
 
-abbrev pub invariant-loop-at : goal.invariant-loop-at
-invariant-loop-at g l = l.table ≡ cleared l.initial.table l.at
+abbrev pub invariant-loop-record : goal.invariant-loop-record
+invariant-loop-record g l = l.heads ≡ cleared l.initial.heads l.record-index

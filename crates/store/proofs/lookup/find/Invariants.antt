@@ -3,8 +3,8 @@ use Rattle.std.proofs.Common.{◌≤◌}
 use Rattle.store.proofs.Walks.{Walks}
 use Rattle.store.proofs.lookup.find.Given as goal
 
-abbrev pub invariant-loop-link : goal.invariant-loop-link
-invariant-loop-link g l = (l.link ≤ l.stored) × Walks g.K.Key.kind l.table l.stored l.key l.link
+abbrev pub invariant-loop-place : goal.invariant-loop-place
+invariant-loop-place g l = (l.link ≤ l.stored) × Walks g.K.Key.kind l.table l.stored l.key l.link
 
-abbrev pub decreases-loop-link : goal.decreases-loop-link
-decreases-loop-link g l = l.link
+abbrev pub decreases-loop-place : goal.decreases-loop-place
+decreases-loop-place g l = l.link

@@ -3,5 +3,5 @@ use Rattle.store.specs.Entries.{entries, keys}
 use Rattle.survey.specs.Held.{Marked}
 use Rattle.survey.proofs.mark.marked.Given as goal
 
-abbrev pub invariant-loop-place : goal.invariant-loop-place
-invariant-loop-place g l = Marked (g.C.Cell.cell l.cell) (keys (entries l.table l.place)) l.labels
+abbrev pub invariant-loop-record : goal.invariant-loop-record
+invariant-loop-record g l = Marked (g.C.Cell.cell l.cell) (keys (entries l.stored l.record-index)) l.labels

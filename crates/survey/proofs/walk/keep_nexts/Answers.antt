@@ -1,27 +1,29 @@
 -- One next code more is met, or finds no place.
-use Rattle.std.proofs.Common.{◌<◌, length, get_or, arith}
-use Rattle.survey.proofs.Holding.{blank, some_below, visited, visited_none, visited_all}
+use Rattle.std.proofs.Common.{sym, arith}
+use Rattle.std.proofs.lemmas.Result.{err_from_is_err_and}
+use Rattle.store.proofs.Laws.{at_none}
+use Rattle.survey.proofs.Holding.{held_itself, visited, visited_none, visited_all}
 use Rattle.survey.proofs.walk.keep_nexts.Goals as goal
+use Rattle.survey.proofs.walk.keep_nexts.Goals.{in-Some+in_ok-total, in_default}
 
-pub returns-in_default-keep : goal.returns-in_default-keep
-returns-in_default-keep g c =
-    visited_none (g.C.Cell.cell c.args.cell.now) c.args.table.now c.args.stored c.args.from c.requires.from c.requires.indexed.within
-    c.loop-next.table c.loop-next.total c.loop-next.place c.keep.new.table c.in-Some.next c.in-Some.ensures c.loop-next.invariant.1 c.in_default-keep.ensures
+pub returns-in_err-total : goal.returns-in_err-total
+returns-in_err-total g c =
+    let p = err_from_is_err_and c.from_residual.result c.from_residual.ensures.1 in
+    rw p.1 (visited_none (g.C.Cell.cell c.args.cell.now) _ _ c.args.from c.requires.from c.requires.indexed.within _ _ c.loop-place.place _ _ _ c.in-Some.ensures c.loop-place.invariant c.in_err-total.ensures)
 
-pub loop-next-smaller : goal.loop-next-smaller
-loop-next-smaller g c =
-    let h : c.loop-next.place < length ((g.C.Cell.cell c.args.cell.now).nexts (get_or c.args.table.now c.args.from blank).key) = some_below _ _ c.in-Some.next c.in-Some.ensures in
-    omega arith
+pub loop-place-init : goal.loop-place-init
+loop-place-init g c = held_itself _ _ c.requires.indexed (omega arith)
 
-pub loop-next-preserved : goal.loop-next-preserved
-loop-next-preserved g c =
-    let h : c.loop-next.place < length ((g.C.Cell.cell c.args.cell.now).nexts (get_or c.args.table.now c.args.from blank).key) = some_below _ _ c.in-Some.next c.in-Some.ensures in (
-      omega arith,
-      visited (g.C.Cell.cell c.args.cell.now) c.args.table.now c.args.stored c.args.from c.requires.from c.requires.indexed.within
-          c.loop-next.table c.loop-next.total c.loop-next.place c.keep.new.table c.in-Some.next c.in-Some-keep.count c.in-Some.ensures c.loop-next.invariant.1 c.in-Some-keep.ensures,
-    )
+pub loop-place-preserved : goal.loop-place-preserved
+loop-place-preserved g c =
+    elim c.match-next_at.branch [
+      | in-Some+in_ok-total w ↦
+          rw (w.table-is, w.total-is)
+          (visited (g.C.Cell.cell c.args.cell.now) _ _ c.args.from c.requires.from c.requires.indexed.within _ _ c.loop-place.place _ _ _ w.in-Some.ensures c.loop-place.invariant w.in_ok-total.ensures)
+      | in_default w ↦ absurd (omega (arith, at_none _ c.loop-place.place (sym w.in_default.ensures), c.next_count-place-end.ensures))
+    ]
 
 pub returns : goal.returns
 returns g c =
-    visited_all (g.C.Cell.cell c.args.cell.now) c.args.table.now c.args.stored c.args.from c.requires.from c.requires.indexed.within
-    c.loop-next.table c.loop-next.total c.loop-next.place c.in_default.ensures c.loop-next.invariant.1
+    visited_all (g.C.Cell.cell c.args.cell.now) _ _ c.args.from c.requires.from c.requires.indexed.within _ _ c.loop-place.place
+    (omega (arith, c.next_count-place-end.ensures)) c.loop-place.invariant

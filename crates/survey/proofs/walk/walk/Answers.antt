@@ -1,23 +1,26 @@
 -- One code more is gone through.
+use Rattle.std.proofs.Common.{arith}
+use Rattle.std.proofs.lemmas.Result.{err_from_is_err_and}
 use Rattle.survey.proofs.Turning.{starts_over, walk_more, walk_over, walk_end}
 use Rattle.survey.proofs.Holding.{packed_as}
 use Rattle.survey.proofs.walk.walk.Goals as goal
 
-pub returns-in_default : goal.returns-in_default
-returns-in_default g c = starts_over (g.C.Cell.cell c.args.cell.now) c.args.table.now c.keep_starts.new.table c.in_default.ensures
+pub returns-in_err-starts : goal.returns-in_err-starts
+returns-in_err-starts g c =
+    let p = err_from_is_err_and c.from_residual.result c.from_residual.ensures.1 in
+    rw p.1 (λ small. starts_over (g.C.Cell.cell c.args.cell.now) _ _ (c.in_err-starts.ensures small))
 
-pub returns-in_default-keep_nexts : goal.returns-in_default-keep_nexts
-returns-in_default-keep_nexts g c =
+pub returns-in_err-stored : goal.returns-in_err-stored
+returns-in_err-stored g c =
     let m = g.C.Cell.cell c.args.cell.now in
-    packed_as m c.args.table.now c.keep_starts.new.table c.keep_nexts.new.table c.in-Some.ensures.long
-    (walk_over m c.keep_starts.new.table c.loop-place.table c.keep_nexts.new.table c.loop-place.place c.loop-place.stored c.loop-place-test.true c.loop-place.invariant.1 c.in_default-keep_nexts.ensures)
+    let p = err_from_is_err_and c.from_residual-in_err-stored.result c.from_residual-in_err-stored.ensures.1 in
+    rw p.1 (λ small. packed_as m _ _ _ c.in_ok-starts.ensures.long (walk_over m _ _ _ _ _ c.loop-place-test.true c.loop-place.invariant.1 (c.in_err-stored.ensures (omega arith))))
+
+pub overflow_add-place : goal.overflow_add-place
+overflow_add-place g c = omega (arith, c.loop-place.invariant.1.fits)
 
 pub loop-place-preserved : goal.loop-place-preserved
-loop-place-preserved g c =
-    walk_more (g.C.Cell.cell c.args.cell.now) c.keep_starts.new.table c.loop-place.table c.keep_nexts.new.table c.loop-place.place c.loop-place.stored c.loop-place-test.true c.loop-place.invariant.1
-    c.in-Some-keep_nexts.count c.in-Some-keep_nexts.ensures
+loop-place-preserved g c = walk_more (g.C.Cell.cell c.args.cell.now) _ _ _ _ _ c.loop-place-test.true c.loop-place.invariant.1 _ c.in_ok-stored.ensures
 
 pub returns : goal.returns
-returns g c =
-    walk_end (g.C.Cell.cell c.args.cell.now) c.args.table.now c.keep_starts.new.table c.loop-place.table c.in-Some.starts c.loop-place.place c.loop-place.stored
-    c.loop-place.invariant.0 c.loop-place-test.false c.in-Some.ensures c.loop-place.invariant.1
+returns g c = walk_end (g.C.Cell.cell c.args.cell.now) _ _ _ _ _ _ c.loop-place.invariant.0 c.loop-place-test.false c.in_ok-starts.ensures c.loop-place.invariant.1

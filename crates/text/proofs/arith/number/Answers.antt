@@ -2,11 +2,11 @@ use Rattle.std.proofs.Common.{◌∷◌, refl, arith}
 use Rattle.text.specs.Expressions.{number}
 use Rattle.text.specs.Derivations.{a_number}
 use Rattle.text.proofs.Going.{number_goes, number_large, number_many}
-use Rattle.text.proofs.Parts.{broken, stops_by, leaf_read}
+use Rattle.text.proofs.Parts.{broken, stops_by, stops_here, leaf_read}
 use Rattle.text.proofs.arith.number.Goals as goal
 
 pub returns-then-value-gt-LARGEST_NUMBER : goal.returns-then-value-gt-LARGEST_NUMBER
-returns-then-value-gt-LARGEST_NUMBER c = stops_by _ _ (c.args.word ∷ c.args.rest.now) refl refl (number_large _ _ _ c.args.word c.args.value c.requires _ (omega arith))
+returns-then-value-gt-LARGEST_NUMBER c = stops_here _ _ c.fault.ensures (number_large _ _ _ c.args.word c.args.value c.requires _ (omega arith))
 
 pub returns-in_err-index : goal.returns-in_err-index
 returns-in_err-index c =

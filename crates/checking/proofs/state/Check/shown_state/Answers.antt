@@ -1,6 +1,5 @@
-use Rattle.std.proofs.Common.{Some, sym, refl, ap, ◌∙◌, subst, arith}
-use Rattle.model.specs.declared.refusal.Cause.TheVariants.{Beyond}
-use Rattle.model.specs.declared.refusal.Layer.TheVariants.{Check}
+use Rattle.std.proofs.Common.{Some, sym, ap, ◌∙◌, subst, arith}
+use Rattle.model.specs.Refusals.{reply}
 use Rattle.levels.specs.Units.{last_at}
 use Rattle.checking.specs.Showing.{whole, shown, CodeAt, NoCode}
 use Rattle.checking.specs.Standing.{phase_of}
@@ -9,8 +8,8 @@ use Rattle.checking.proofs.state.Check.shown_state.Goals as goal
 
 pub returns-then-place-count : goal.returns-then-place-count
 returns-then-place-count g c = (
-  λ _. subst (λ ph. NoCode (shown (phase_of ph) c.args.table.now) c.args.place (record { layer = Check; cause = Beyond; place = c.args.place })) (sym c.in-Failing.is)
-      (omega (arith, run_length (whole c.args.table.now) c.in-Failing.before c.in-Failing.end c.in-Failing.code), refl),
+  λ _. subst (λ ph. NoCode (shown (phase_of ph) c.args.table.now) c.args.place c.new-then-place-count.result) (sym c.in-Failing.is)
+      (omega (arith, run_length (whole c.args.table.now) c.in-Failing.before c.in-Failing.end c.in-Failing.code), ap reply c.new-then-place-count.ensures),
   λ no. absurd (no c.in_ok-fits.ensures),
 )
 

@@ -4,6 +4,7 @@ use Rattle.checking.proofs.state.Check.through.Given as goal
 
 abbrev pub invariant-loop-place : goal.invariant-loop-place
 invariant-loop-place g l =
+    let c = g.C.Cell.cell l.product.cell.now in
     Adds l.initial.self l.self l.initial.table l.table
-    × Goes (g.C.Cell.cell l.cell) (g.W.Watch.watch l.watch) g.W.State.Key.kind l.key ((g.C.Cell.cell l.cell).nexts l.key.last) (drop l.place ((g.C.Cell.cell l.cell).nexts l.key.last)) l.initial.self l.self l.initial.table l.table
+    × Goes c (g.W.Watch.watch l.product.watch.now) g.W.State.Key.kind l.key (c.nexts l.key.last) (drop l.place (c.nexts l.key.last)) l.initial.self l.self l.initial.table l.table
     × (Countable l.initial.self.phase → Countable l.self.phase)

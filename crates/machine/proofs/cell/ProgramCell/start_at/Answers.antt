@@ -1,10 +1,12 @@
-use Rattle.std.proofs.Common.{sym, arith}
+use Rattle.std.proofs.Common.{nat_lt, rules, of_calls, arith}
+use Rattle.std.proofs.lemmas.Bool.{ltb-false}
 use Rattle.traces.specs.Codes.{start_codes}
-use Rattle.traces.proofs.Begins.{start_length, at_end}
+use Rattle.traces.proofs.Begins.{start_length}
+use Rattle.machine.proofs.States.{then_at}
 use Rattle.machine.proofs.cell.ProgramCell.start_at.Goals as goal
 
-pub returns-then-place-count : goal.returns-then-place-count
-returns-then-place-count c =
+pub returns : goal.returns
+returns c =
     let e = start_length c.args.self.now.ranges in
     let f = c.count.ensures in
-    sym (at_end (start_codes c.args.self.now.ranges) c.args.place (omega arith))
+    then_at (start_codes c.args.self.now.ranges) c.args.place (nat_lt c.args.place c.count.result) c.then.result _ c.then.ensures.variant c.then.ensures.some (λ b x q. search (rules, of_calls)) (λ b. let n = ltb-false _ _ b in omega arith)

@@ -1,33 +1,26 @@
-use Rattle.std.proofs.Common.{length, get_or, vec_items, sym, ap, ◌∙◌, arith}
+-- The state at a place among those that the statement at the label leads to.
+use Rattle.std.proofs.Common.{sym, ap, ◌∙◌}
 use Rattle.model.specs.Cells.{at}
-use Rattle.text.specs.declared.word.Register.TheVariants.{A as ra}
-use Rattle.machine.specs.declared.statement.Statement.TheVariants.{Set}
-use Rattle.machine.specs.Trees.{ariths_of, tests_of}
-use Rattle.machine.specs.Views.{statement_stands}
-use Rattle.machine.specs.Cells.{instructions, viewed}
-use Rattle.traces.specs.Tables.{outcomes}
-use Rattle.machine.proofs.States.{views_length, views_at, stand_at, exit_none, next_here}
+use Rattle.traces.specs.Tables.{following}
+use Rattle.machine.proofs.States.{none_at, some_at}
 use Rattle.machine.proofs.program.Program.outcome.Goals as goal
 
-pub returns-then-label-statements : goal.returns-then-label-statements
-returns-then-label-statements c =
+pub returns-in_err-statement : goal.returns-in_err-statement
+returns-in_err-statement c =
     let p = c.args.self.now in
-    let e = views_length (ariths_of p.expressions) (tests_of p.expressions) (vec_items p.statements) in
-    let f = ap length c.as_slice-statements.ensures.value in
-    sym (ap (λ π. at π c.args.place) (exit_none p.ranges (instructions p) c.args.state.now (omega arith)))
+    let σ = c.args.state.now in
+    let none = none_at p c.deref.result.now c.from.result σ.label c.deref.ensures.value c.from.ensures c.in_err-statement.ensures.lookup.3 in
+    c.from_residual.ensures ∙ sym (ap (λ o. at (following p.ranges o σ.values) c.args.place) none)
 
 pub perform-requires : goal.perform-requires
 perform-requires c =
-    let p = c.args.self.now in
-    let f = ap length c.as_slice-statements.ensures.value in
-    ap (λ ss. statement_stands (ariths_of p.expressions) (tests_of p.expressions) (get_or ss c.args.state.now.label (Set ra 0 0))) c.as_slice-statements.ensures.value
-    ∙ stand_at (ariths_of p.expressions) (tests_of p.expressions) (vec_items p.statements) c.args.state.now.label (Set ra 0 0) p.whole (omega arith)
+    let found = c.in_ok-statement.ensures.lookup in
+    (some_at c.args.self.now c.deref.result.now c.from.result c.args.state.now.label c.deref.ensures.value c.from.ensures c.in_ok-statement.statement.now found.3.0 found.1).1
 
 pub returns : goal.returns
 returns c =
     let p = c.args.self.now in
-    let f = ap length c.as_slice-statements.ensures.value in
-    let v = views_at (ariths_of p.expressions) (tests_of p.expressions) (vec_items p.statements) c.args.state.now.label (Set ra 0 0) (omega arith) in
-    c.perform.ensures
-    ∙ ap (λ ss. at (outcomes p.ranges (viewed p (get_or ss c.args.state.now.label (Set ra 0 0))) c.args.state.now.values) c.args.place) c.as_slice-statements.ensures.value
-    ∙ sym (ap (λ π. at π c.args.place) (next_here p.ranges (instructions p) c.args.state.now _ v))
+    let σ = c.args.state.now in
+    let found = c.in_ok-statement.ensures.lookup in
+    let some = (some_at p c.deref.result.now c.from.result σ.label c.deref.ensures.value c.from.ensures c.in_ok-statement.statement.now found.3.0 found.1).0 in
+    c.perform.ensures ∙ sym (ap (λ o. at (following p.ranges o σ.values) c.args.place) some)

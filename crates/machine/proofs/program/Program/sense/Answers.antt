@@ -1,37 +1,25 @@
-use Rattle.std.proofs.Common.{◌≡◌, ℕ, ◌<◌, ◌≤◌, get_or, set, Some, sym, ap, ◌∙◌, arith, w16, to_z, of_z}
-use Rattle.text.specs.declared.word.Register.{Register}
-use Rattle.machine.specs.declared.program.Program.{Program}
-use Rattle.machine.proofs.Digits.{back_digit}
+use Rattle.std.proofs.Common.{◌≡◌, pos, ◌+ℤ◌, nat_le, ap, sym, ◌∙◌, arith, rules, of_calls, Some, slice_set}
+use Rattle.std.proofs.lemmas.Bool.{leb-true, leb-false}
 use Rattle.text.specs.Words.{register_index}
-use Rattle.traces.specs.Traces.{range_at, ◌▹◌}
-use Rattle.traces.specs.Tables.{above}
 use Rattle.traces.specs.declared.range.Range.{Range}
-use Rattle.traces.proofs.Laws.{is_sound}
-use Rattle.machine.specs.Cells.{instructions}
-use Rattle.machine.proofs.States.{range_here, sense_some, sense_none}
+use Rattle.traces.specs.Traces.{◌▹◌}
+use Rattle.traces.specs.Tables.{above}
+use Rattle.traces.proofs.Laws.{sense_length}
+use Rattle.machine.specs.Cells.{sensed}
+use Rattle.machine.proofs.States.{sense_there, then_at}
 use Rattle.machine.proofs.program.Program.sense.Goals as goal
-
--- the range of the register is the one at its index
-here : (p : Program) (x : Register) (i : ℕ) (d : Range) → i ≡ register_index x → i < 6 → range_at p.ranges (register_index x) ≡ get_or p.ranges i d
-here p x i d e h =
-    let s = is_sound p.ranges (instructions p) p.is in
-    let six = s.six in
-    sym (ap (range_at p.ranges) e) ∙ range_here p.ranges i d (omega arith)
-
-pub returns-then-place-width : goal.returns-then-place-width
-returns-then-place-width c =
-    let p = c.args.self.now in
-    let r = here p c.args.register c.index.result c.index-self-index.result c.index.ensures.value c.index.ensures.small in
-    let w = c.width.ensures in
-    sense_none p.ranges c.args.next c.args.state.now.values (register_index c.args.register) c.args.place (get_or p.ranges c.index.result c.index-self-index.result) r (let t = c.if-place-width.true in omega arith)
 
 pub returns : goal.returns
 returns c =
-    let p = c.args.self.now in
-    let g = get_or p.ranges c.index.result c.index-self-index.result in
-    let r = here p c.args.register c.index.result c.index-self-index.result c.index.ensures.value c.index.ensures.small in
     let w = c.width.ensures in
-    let h : c.args.place ≤ above g.low g.high = (let t = c.if-place-width.false in omega arith) in
-    let b = back_digit g c.args.place c.value.result h c.value.ensures in
-    ap (λ x. Some (c.args.next ▹ set c.args.state.now.values x (to_z w16 (of_z w16 c.value.result)))) c.index-2.ensures.value
-    ∙ sense_some p.ranges c.args.next c.args.state.now.values (register_index c.args.register) c.args.place g (to_z w16 (of_z w16 c.value.result)) r h b
+    let r = c.range-range.result in
+    let x = register_index c.args.register in
+    let ρ = c.args.state.now.values in
+    let l = sense_length c.args.self.now.ranges x c.args.next ρ in
+    let u = ap (λ (q : Range). above q.low q.high) c.range-range.ensures in
+    then_at (sensed c.args.self.now x c.args.next c.args.state.now) c.args.place (nat_le c.args.place c.width.result) c.then.result _ c.then.ensures.variant c.then.ensures.some
+    (λ b σ q.
+    let n = leb-true _ _ b in
+    let e : σ ≡ c.args.next ▹ slice_set ρ x (r.low +ℤ pos c.args.place) = search (rules, of_calls) in
+    sense_there c.args.self.now.ranges c.args.next ρ x c.args.place r c.range-range.ensures (omega arith) ∙ ap Some (sym e))
+    (λ b. let n = leb-false _ _ b in omega arith)

@@ -1,6 +1,7 @@
-use Rattle.program.specs.Headers.{flag}
-use Rattle.program.proofs.Wholes.{six_map}
+use Rattle.std.proofs.Common.{None, is_some, sym, ◌∙◌, arith, rules}
+use Rattle.traces.specs.declared.range.Range.{Range}
+use Rattle.program.proofs.Wholes.{mapped}
 use Rattle.program.proofs.header.Header.flags.Goals as goal
 
 pub returns : goal.returns
-returns c = six_map flag c.args.self.now.ranges _ _ _ _ _ _ _ _ _ _ _ _ c.requires c.flag.ensures c.flag-2.ensures c.flag-3.ensures c.flag-4.ensures c.flag-5.ensures c.flag-6.ensures
+returns c = mapped (is_some {T = Range}) None c.args.self.now.ranges c.map.result (c.map.ensures.items.long ∙ sym c.args.self.now.six) (λ i h. let k = c.map.ensures.items.at i None (is_some {T = Range} None) (omega arith) in search (rules, k.2.met))

@@ -1,6 +1,7 @@
+use Rattle.std.proofs.Common.{None, sym, ◌∙◌, arith, rules}
 use Rattle.traces.specs.Programs.{range}
-use Rattle.program.proofs.Wholes.{six_map}
+use Rattle.program.proofs.Wholes.{mapped}
 use Rattle.program.proofs.header.Header.full.Goals as goal
 
 pub returns : goal.returns
-returns c = six_map range c.args.self.now.ranges _ _ _ _ _ _ _ _ _ _ _ _ c.requires c.range.ensures c.range-2.ensures c.range-3.ensures c.range-4.ensures c.range-5.ensures c.range-6.ensures
+returns c = mapped range None c.args.self.now.ranges c.map.result (c.map.ensures.items.long ∙ sym c.args.self.now.six) (λ i h. let k = c.map.ensures.items.at i None (range None) (omega arith) in search (rules, k.2.met))

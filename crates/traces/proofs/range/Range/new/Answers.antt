@@ -3,9 +3,6 @@ use Rattle.std.proofs.lemmas.Int.{ints, to_z-of_z}
 use Rattle.traces.proofs.Spans.{Ordered, improper, is_proper}
 use Rattle.traces.proofs.range.Range.new.Goals as goal
 
-pub returns-then-low-ltminus1000 : goal.returns-then-low-ltminus1000
-returns-then-low-ltminus1000 c = improper c.args.low c.args.high c.args.from c.args.to (λ o. let a = o.floor in let b = o.ceiling in let d = o.first in let e = o.some in let f = o.last in let g = o.narrow in grind (arith, ints))
-
 pub returns-then-low-from : goal.returns-then-low-from
 returns-then-low-from c = improper c.args.low c.args.high c.args.from c.args.to (λ o. let a = o.floor in let b = o.ceiling in let d = o.first in let e = o.some in let f = o.last in let g = o.narrow in grind (arith, ints))
 

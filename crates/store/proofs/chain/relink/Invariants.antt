@@ -1,7 +1,0 @@
--- The records before this one are linked.
-use Rattle.std.proofs.Common.{◌≡◌}
-use Rattle.store.specs.Steps.{all_linked}
-use Rattle.store.proofs.chain.relink.Given as goal
-
-abbrev pub invariant-loop-place : goal.invariant-loop-place
-invariant-loop-place g l = l.table ≡ all_linked g.K.Key.kind l.buckets l.initial.table l.place
