@@ -8,7 +8,6 @@ use Rattle.model.specs.Keys.{KeyMeaning, configuration_key}
 use Rattle.model.specs.Runs.{moment}
 use Rattle.model.specs.Watches.{WatchMeaning}
 use Rattle.model.specs.declared.configuration.Configuration.{Configuration}
-use Rattle.model.specs.declared.moment.Reading.{Reading}
 use Rattle.levels.specs.Units as units
 use Rattle.levels.specs.Units.{Standing, Kept, looking, extending, passing, failing, filled, blame, blamed, put, put_nexts, looked, extended, onward}
 use Rattle.store.specs.Entries as stores
@@ -147,10 +146,6 @@ pub at_none : {A : Type 0} (xs : List A) (i : ℕ) → at xs i ≡ None → leng
 at_none [] i e = omega arith
 at_none (x ∷ xs) zero e = absurd (cc)
 at_none (x ∷ xs) (suc i) e = omega (arith, at_none xs i e)
-
--- what is read of a state
-pub read_state : (c : CellMeaning) (x : ℕ) (r : Reading) → c.state x ≡ true → Some r ≡ cond (c.state x) (Some (c.reads x)) None → r ≡ c.reads x
-read_state c x r st e = let z : Some r ≡ Some (c.reads x) = e ∙ ap (λ b. cond b (Some (c.reads x)) None) st in cc
 
 module _ {S : Type 0} (c : CellMeaning) (w : WatchMeaning S) (kind : KeyMeaning S) (key : Configuration S) (all : List ℕ) where
   -- one more code

@@ -5,7 +5,7 @@ ghost use Rattle.checking.specs.Standing.{phase_of, place_of, Met, Adds, Goes, C
 use crate::phase::Phase;
 use crate::product::Product;
 use crate::state::Check;
-use model::{Cell, Configuration, Key, Watch, read};
+use model::{Cell, Configuration, Key, Watch, reading};
 use store::{NoPlace, Record, keep};
 
 // That a phase's numbers can be counted further is no invariant: `advance` does count, and only the table bounds that.
@@ -55,9 +55,9 @@ impl Check {
         ensures goes { Goes (C.Cell.cell product.now.cell.now) (W.Watch.watch product.now.watch.now) W.State.Key.kind key.now ((C.Cell.cell product.now.cell.now).nexts key.now.last) [] self.old self.new table.old table.new }
         ensures counts { Countable self.old.phase → Countable self.new.phase }
     {
-        let Some(start) = read(product.cell, key.first) else {
-            return;
-        };
+        // By `reading`: where another hand wrote to the table and the first code is no state, its values are 0, and the next
+        // codes are looked at all the same.
+        let start = reading(product.cell, key.first);
         // By place, as a cell hands its codes out: a loop over a chain of them gets no proof.
         for place in 0..product.cell.next_count(key.last) {
             if let Some(code) = product.cell.next_at(key.last, place) {

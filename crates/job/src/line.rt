@@ -1,6 +1,7 @@
 // A line of a report while it is written.
-ghost use Rattle.std.specs.Prelude.{◌≡◌, ℕ, ◌+◌, ◌*◌, ◌<◌, ◌≤◌, List, [], ◌∷◌, ◌++◌, length, take, IfOk, decimal};
+ghost use Rattle.std.specs.Prelude.{◌≡◌, ℕ, ◌+◌, ◌*◌, ◌<◌, ◌≤◌, List, [], ◌∷◌, ◌++◌, length, take, MatchResult, Ok, decimal};
 ghost use Rattle.std.specs.Fmt.{signed_decimal};
+ghost use Rattle.model.specs.Refusals.{reply};
 ghost use Rattle.job.specs.declared.line.TheConstants.{ROOM};
 ghost use Rattle.job.specs.Lines.{Wrote, spaced, listed};
 
@@ -94,16 +95,24 @@ impl Line {
     }
 
     // Ends the line and writes it to the front of a buffer; answers its length.
-    pub(crate) fn end_in(mut self, out: &mut [u8]) -> Result<usize, Refusal>
-        requires { length self < ROOM }
-        ensures line { Wrote (self ++ (10 ∷ [])) out.old out.new result }
-        ensures within { IfOk result (λ n. n ≤ length out.new) }
+    pub(crate) fn end_in(mut self, out: &mut [u8]) -> usize
+        requires line { length self < ROOM }
+        requires buffer { ROOM ≤ length out.old }
+        ensures line { Wrote (self ++ (10 ∷ [])) out.old out.new (Ok result) }
+        ensures within { result ≤ length out.new }
     {
-        if out.len() < ROOM {
-            return Err(Refusal::new(Layer::Check, Cause::Line, out.len()));
-        }
         self.push_bytes(b"\n");
         out[..self.length].copy_from_slice(&self.bytes[..self.length]);
-        Ok(self.length)
+        self.length
     }
+}
+
+// Turns a buffer away that a line may not fit in; it is asked before the line is put together.
+pub(crate) fn check_room(out: &[u8]) -> Result<(), Refusal>
+    ensures { MatchResult result (λ _. ROOM ≤ length out.now) (λ e. (length out.now < ROOM) × (reply e ≡ (6, 18, length out.now))) }
+{
+    if out.len() < ROOM {
+        return Err(Refusal::new(Layer::Check, Cause::Line, out.len()));
+    }
+    Ok(())
 }

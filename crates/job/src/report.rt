@@ -2,7 +2,7 @@
 ghost use Rattle.std.specs.Prelude.{◌≡◌, ◌≤◌, length, IfOk};
 ghost use Rattle.job.specs.Lines.{Wrote, word, refused_line, verdict_line, state_line};
 
-use crate::line::Line;
+use crate::line::{Line, check_room};
 use model::{Answer, Reading, Refusal, Verdict};
 
 // No `Display`: nothing says that printing it succeeds, and so no line that can't fail proves with it.
@@ -24,12 +24,13 @@ pub fn refused_line(out: &mut [u8], refusal: &Refusal) -> Result<usize, Refusal>
     ensures line { Wrote (refused_line refusal.now) out.old out.new result }
     ensures within { IfOk result (λ n. n ≤ length out.new) }
 {
+    check_room(out)?;
     let mut line = Line::new();
     line.push_bytes(b"refused");
     line.push_spaced(u64::from(u8::from(refusal.layer)));
     line.push_spaced(u64::from(u8::from(refusal.cause)));
     line.push_spaced(refusal.place as u64);
-    line.end_in(out)
+    Ok(line.end_in(out))
 }
 
 // The first line of a verdict's report; answers its length.
@@ -37,11 +38,12 @@ pub fn verdict_line(out: &mut [u8], answer: &Answer) -> Result<usize, Refusal>
     ensures line { Wrote (verdict_line answer.now) out.old out.new result }
     ensures within { IfOk result (λ n. n ≤ length out.new) }
 {
+    check_room(out)?;
     let mut line = Line::new();
     line.push_bytes(verdict_word(answer.verdict));
     line.push_spaced(answer.count as u64);
     line.push_spaced(answer.stored as u64);
-    line.end_in(out)
+    Ok(line.end_in(out))
 }
 
 // The line of one state of a shown run; answers its length.
@@ -50,8 +52,9 @@ pub fn state_line(out: &mut [u8], state: &Reading) -> Result<usize, Refusal>
     ensures line { Wrote (state_line state.now) out.old out.new result }
     ensures within { IfOk result (λ n. n ≤ length out.new) }
 {
+    check_room(out)?;
     let mut line = Line::new();
     line.push_number(u64::from(state.label));
     line.push_values(&state.values);
-    line.end_in(out)
+    Ok(line.end_in(out))
 }

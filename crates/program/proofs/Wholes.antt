@@ -77,6 +77,11 @@ none_left (suc (suc (suc (suc (suc (suc i)))))) mid m n = refl
 closes_nothing : (w : Word) (ws : List Word) (m : Memo) → at CloseBrace w ≡ true → reads (w ∷ ws) m (statements ∷ []) ≡ fault (cause_of (w ∷ ws)) (w ∷ ws)
 closes_nothing w ws m c = reading_stuck table causes w ws m (statements ∷ []) (ap (λ s. next s true [] stuck) (find_at statements w CloseBrace (is_token w.token CloseBrace (lit≤ tt) refl c)))
 
+-- for crates/judge, which cites it
+pub no_items : {X : Type 0} (xs : List X) → length xs ≡ 0 → xs ≡ []
+no_items [] e = refl
+no_items (x ∷ xs) e = absurd (omega arith)
+
 module _ {ws : List Word} {h : Header} {mid : List Word} (R : HeaderRead ws h mid) (n : NoReg h.next mid) where
   declared : Declares 0 undeclared ws R.bounds mid
   declared = R.derives R.bounds mid (by n)

@@ -1,5 +1,5 @@
 // Declaring one register more.
-ghost use Rattle.std.specs.Prelude.{suc, ◌*◌, ◌<◌, ◌≤◌, MatchResult};
+ghost use Rattle.std.specs.Prelude.{◌≡◌, suc, ◌*◌, ◌<◌, ◌≤◌, MatchResult};
 ghost use Rattle.text.specs.Words.{register_index};
 ghost use Rattle.traces.specs.Tables.{above};
 ghost use Rattle.program.specs.Boards.{Charged};
@@ -14,7 +14,7 @@ use traces::Range;
 const MOST_SETTINGS: usize = 65_536;
 
 impl Header {
-    // Declares a register; or there would be too many settings, which is the fault of the declaration's `;`.
+    // Declares a register; or there would be too many settings, which is the fault of the declaration's `;`, and then nothing changes.
     pub(crate) fn declare(
         &mut self,
         register: Register,
@@ -22,7 +22,7 @@ impl Header {
         sign: Word,
     ) -> Result<(), Fault>
         requires { self.old.next ≤ register_index register }
-        ensures { MatchResult result (λ _. Declared register range self.old self.new) (Charged (65536 < self.old.settings * suc (above range.from range.to)) Cause.Starts sign) }
+        ensures { MatchResult result (λ _. Declared register range self.old self.new) (λ f. (self.new ≡ self.old) × Charged (65536 < self.old.settings * suc (above range.from range.to)) Cause.Starts sign f) }
     {
         match self.settings.checked_mul(range.starts()) {
             Some(settings) if settings <= MOST_SETTINGS => {

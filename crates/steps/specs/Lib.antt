@@ -3,4 +3,3 @@ pub mod Index
 pub mod Laws
 pub mod Meaning
 pub mod Calls
-pub mod Made

@@ -44,6 +44,7 @@ impl<'a> Cell for StepTable<'a> {
         self.nexts(code).get(place).map(|code| u64::from(*code))
     }
 
+    #[tactic(auto, using(crate::proofs::Asking::reading_is))]
     fn observe(&self, code: u64, reading: &mut Reading) -> bool {
         let Some(row) = self.rows.get(code as usize) else {
             return false;

@@ -5,7 +5,7 @@ ghost use Rattle.steps.specs.Tables.{proper_arcs, proper_rows};
 
 use crate::row::{Arc, Row};
 use crate::short::Short;
-use crate::table::{Nexts, ROWS, no_nexts};
+use crate::table::{Nexts, ROWS};
 use model::{Cause, Layer, Refusal};
 
 const ARCS: usize = 4096;
@@ -61,16 +61,17 @@ impl<'a> Counted<'a> {
         starts
     }
 
-    // Where the arcs of each row lead, or the refusal of the first arc that is not proper.
-    pub(crate) fn nexts(&self) -> Result<Nexts, Refusal>
-        ensures { MatchResult result (λ nexts. (proper_arcs (length self.now.rows.now) [] self.now.arcs.now ≡ true) × Filed self.now.arcs.now nexts) (λ e. (i : ℕ) × (e ≡ record { layer = Layer.Steps; cause = Cause.Step; place = length self.now.rows.now + i }) × (i < length self.now.arcs.now) × (proper_arcs (length self.now.rows.now) [] (take i self.now.arcs.now) ≡ true) × (proper_arcs (length self.now.rows.now) [] (take (i + 1) self.now.arcs.now) ≡ false)) }
+    // Files where the arcs of each row lead into lists that are empty, or refuses the first arc that is not proper. Into the
+    // caller's lists: handed out by value they would be copied once more, and they are most of what a table is.
+    pub(crate) fn file(&self, nexts: &mut Nexts) -> Result<(), Refusal>
+        requires { Filed [] nexts.old }
+        ensures { MatchResult result (λ _. (proper_arcs (length self.now.rows.now) [] self.now.arcs.now ≡ true) × Filed self.now.arcs.now nexts.new) (λ e. (i : ℕ) × (e ≡ record { layer = Layer.Steps; cause = Cause.Step; place = length self.now.rows.now + i }) × (i < length self.now.arcs.now) × (proper_arcs (length self.now.rows.now) [] (take i self.now.arcs.now) ≡ true) × (proper_arcs (length self.now.rows.now) [] (take (i + 1) self.now.arcs.now) ≡ false)) }
     {
-        let mut nexts = no_nexts();
         for (number, arc) in self.arcs.iter().enumerate() {
             let refusal = Refusal::new(Layer::Steps, Cause::Step, self.rows.len() + number);
-            self.enter(arc, &mut nexts).map_err(|_| refusal)?;
+            self.enter(arc, nexts).map_err(|_| refusal)?;
         }
-        Ok(nexts)
+        Ok(())
     }
 
     // Puts where an arc leads behind the others of its row, if the arc is proper.

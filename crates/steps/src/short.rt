@@ -12,7 +12,8 @@ pub(crate) struct Full;
 #[derive(Drop)]
 pub(crate) struct Short<const N: usize> {
     items: [u8; N],
-    length: usize,
+    // In 16 bits, as there is one beside each row's few items.
+    length: u16,
 }
 
 impl<const N: usize> Model for Short<N> {
@@ -22,11 +23,12 @@ impl<const N: usize> Model for Short<N> {
 
     ghost view = { λ s. take s.length s.items };
 
-    ghost invariant = { λ s. s.length ≤ N };
+    ghost invariant = { λ s. (s.length ≤ N) × (N ≤ 256) };
 }
 
 impl<const N: usize> Short<N> {
     pub(crate) fn new() -> Short<N>
+        requires { N ≤ 256 }
         ensures { result ≡ [] }
     {
         Short {
@@ -38,17 +40,18 @@ impl<const N: usize> Short<N> {
     pub(crate) fn as_slice(&self) -> &[u8]
         ensures { result.now ≡ self.now }
     {
-        &self.items[..self.length]
+        &self.items[..usize::from(self.length)]
     }
 
     // Puts an item at the end, where there is room.
     pub(crate) fn push(&mut self, item: u8) -> Result<(), Full>
         ensures { MatchResult result (λ _. (length self.old < N) × (self.new ≡ self.old ++ item ∷ [])) (λ _. (self.new ≡ self.old) × (N ≤ length self.old)) }
     {
-        if self.length >= N {
+        let place = usize::from(self.length);
+        if place >= N {
             return Err(Full);
         }
-        self.items[self.length] = item;
+        self.items[place] = item;
         self.length += 1;
         Ok(())
     }

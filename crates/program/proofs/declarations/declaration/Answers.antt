@@ -57,7 +57,7 @@ returns-in_err-declare c =
     let r = c.in-Some.ensures in
     broken _ _ _ c.in_err-declare.field-0.0 c.from_residual-in_err-declare.ensures.1
     (λ ws w e s R. too_many e s R v.1 v.2 v.3 c.in_ok-low.ensures c.in_ok-high.ensures c.in_ok-from.ensures c.in_ok-to.ensures x.0 y c.in-Some.range (r.0 ∙ same c.in_ok-low.ensures) (r.1 ∙ same c.in_ok-high.ensures) (r.2 ∙ same c.in_ok-from.ensures) (r.3 ∙ same c.in_ok-to.ensures)
-    _ _ c.in_err-declare.ensures)
+    _ _ c.in_err-declare.ensures.1)
 
 pub returns : goal.returns
 returns c =

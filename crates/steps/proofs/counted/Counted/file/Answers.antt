@@ -2,7 +2,7 @@
 use Rattle.std.proofs.Common.{◌≡◌, sym, ◌∙◌, rules, of_calls}
 use Rattle.std.proofs.lemmas.Result.{err_from_is_err_and}
 use Rattle.steps.proofs.Filing.{arcs_more, filed_more, ok_is, err_is}
-use Rattle.steps.proofs.counted.Counted.nexts.Goals as goal
+use Rattle.steps.proofs.counted.Counted.file.Goals as goal
 
 pub returns-in_err-map_err : goal.returns-in_err-map_err
 returns-in_err-map_err c =
