@@ -1,7 +1,8 @@
 // Reads a job from standard input and prints its report on standard output.
 #![tactic(auto)]
 
-ghost use Rattle.std.specs.Prelude.{◌≤◌, length, IfOk};
+ghost use Rattle.std.specs.Io.KnownBytes.{Consumes, IsAtEnd};
+ghost use Rattle.std.specs.Prelude.{◌≡◌, ◌+◌, ◌<◌, ◌≤◌, length, take, drop, IfOk};
 
 use std::io;
 use std::io::{Read, Write};
@@ -9,22 +10,37 @@ use std::io::{Read, Write};
 // One byte more than a job may have, so that a longer one is seen to be too long.
 const MOST: usize = job::MOST + 1;
 
-// Reads until the buffer is full or the input ends; answers how many bytes came.
+// One read into the buffer from a place on.
+fn read_at<R: Read>(input: &mut R, buffer: &mut [u8], at: usize) -> io::Result<usize>
+    requires { at < length buffer.old }
+    ensures front { take at buffer.new ≡ take at buffer.old }
+    ensures long { length buffer.new ≡ length buffer.old }
+    ensures fits { IfOk result (λ n. at + n ≤ length buffer.new) }
+    ensures bytes { IfOk result (λ n. Consumes (R.remaining input.old) (R.remaining input.new) (take n (drop at buffer.new))) }
+    ensures end { IfOk result (λ n. n ≡ 0 → IsAtEnd (R.remaining input.new)) }
+{
+    input.read(&mut buffer[at..])
+}
+
+// Reads until the buffer is full or the input ends; answers how many bytes came. They are the input's next ones, and all of
+// them where they are fewer than the buffer holds.
 // Not by the library's `read_to_end`: that reads 8 KB at first, and where the input is a socket of messages the rest of a longer
 // message is lost. Nor is a read tried again that a signal interrupts.
 fn fill<R: Read>(input: &mut R, buffer: &mut [u8]) -> io::Result<usize>
-    ensures { IfOk result (λ n. n ≤ length buffer.new) }
+    ensures within { IfOk result (λ n. n ≤ length buffer.new) }
+    ensures bytes { IfOk result (λ n. Consumes (R.remaining input.old) (R.remaining input.new) (take n buffer.new)) }
+    ensures end { IfOk result (λ n. n < length buffer.new → IsAtEnd (R.remaining input.new)) }
 {
-    let room = buffer.len();
-    let mut free = buffer;
-    while !free.is_empty() {
-        let count = input.read(free)?;
+    let mut filled = 0;
+    // By its index: the contract speaks of the front of the buffer, which a slice that grows shorter leaves behind.
+    while filled < buffer.len() {
+        let count = read_at(input, buffer, filled)?;
         if count == 0 {
-            break;
+            return Ok(filled);
         }
-        free = &mut free[count..];
+        filled += count;
     }
-    Ok(room - free.len())
+    Ok(filled)
 }
 
 fn run(rt: &HostRuntime) -> anyhow::Result<()> {
